@@ -20,10 +20,10 @@
 # two differ.
 set -eu
 . "$(dirname "$0")/common.sh"
-copy_crates $(with_those_below delivery_turns agent_seats tree_search problem_text)
-uses="dcop_base dcop_edge pseudotree adopt_context protocol_steps token_runs worker_runs fifo_links dfs_agent"
-uses="$uses dpop_agent adopt_agent delivery_core delivery_turns agent_cells agent_workers agent_links agent_seats"
-add_crate links/visits "bench_visits: $uses tree_search problem_text"
+copy_crates $(with_those_below delivery_turns agent_links minimised_problem problem_text)
+uses="dcop_base dcop_edge pseudotree adopt_context protocol_steps run_laws worker_laws fifo_links dfs_agent"
+uses="$uses dpop_agent adopt_agent delivery_core delivery_turns agent_cells agent_workers agent_links"
+add_crate links/visits "bench_visits: $uses minimised_problem problem_text"
 add_crate links/one_thread "bench_links staticlib: fifo_links rtrb"
 add_crate links/two_threads "bench_threads: fifo_links rtrb"
 

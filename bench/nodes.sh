@@ -29,7 +29,7 @@ set -eu
 program=${1:?usage: bench/nodes.sh PROGRAM}
 . "$(dirname "$0")/common.sh"
 copy_crates $(with_those_below solve_top tcp_wire)
-add_crate nodes/program "bench_nodes: dcop_base dcop_edge wire_edge tcp_wire solve_top futures"
+add_crate nodes/program "bench_nodes: dcop_base dcop_edge wire_pump tcp_wire solve_top futures"
 make_crate bench_nodes run < /dev/null
 python3 - "$program" "$folder/crates/bench_nodes/out/bench_nodes" "$folder" <<'PY'
 import random, sys

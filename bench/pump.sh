@@ -13,7 +13,7 @@
 set -eu
 . "$(dirname "$0")/common.sh"
 copy_crates $(with_those_below wire_pump tcp_wire)
-add_crate pump/program "bench_pump: dcop_base wire_edge wire_pump tcp_wire futures rtrb tokio"
+add_crate pump/program "bench_pump: dcop_base wire_pump tcp_wire futures rtrb tokio"
 make_crate bench_pump run
 rustc -O --edition 2024 "$top/bench/pump/plain.rs" -o "$folder/plain"
 "$folder/plain" "$(cut -d' ' -f1 "$folder/told")" >> "$folder/told"

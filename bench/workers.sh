@@ -52,10 +52,10 @@ binary = [(above(i), i) for i in range(1, 100)]
 ties = [(above(above(i)), i) for i in random.sample(range(3, 100), 30)]
 write("adopt", 1, 100, 4, 100, sorted(binary + ties))
 PY
-copy_crates $(with_those_below delivery_turns agent_seats tree_search problem_text)
-uses="dcop_base dcop_edge pseudotree adopt_context protocol_steps token_runs worker_runs fifo_links dfs_agent"
-uses="$uses dpop_agent adopt_agent delivery_core delivery_turns agent_cells agent_workers agent_links agent_seats"
-add_crate workers/program "bench_workers: $uses tree_search problem_text"
+copy_crates $(with_those_below delivery_turns agent_links minimised_problem problem_text)
+uses="dcop_base dcop_edge pseudotree adopt_context protocol_steps run_laws worker_laws fifo_links dfs_agent"
+uses="$uses dpop_agent adopt_agent delivery_core delivery_turns agent_cells agent_workers agent_links"
+add_crate workers/program "bench_workers: $uses minimised_problem problem_text"
 for file in tree ladders adopt; do
     [ "$file" = adopt ] && method=adopt || method=dpop
     (cd "$folder/crates/bench_workers" && rt run -- "$method" < "$folder/$file" > "$folder/told" 2> "$folder/log") \

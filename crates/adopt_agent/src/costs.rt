@@ -10,7 +10,7 @@ ghost use Rattle.adopt_agent.specs.Sound.{AreAdded, AreCosts, IsGround};
 
 use adopt_context::AgentContext;
 use dcop_base::{NoMemory, Private, Val, VarId, VarList, stands_in};
-use own_costs::add_table;
+use local_costs::add_table;
 use pseudotree::Place;
 use std::alloc::Global;
 

@@ -18,13 +18,13 @@ use Rattle.protocol_steps.specs.Step.{start_of, step_of}
 use Rattle.protocol_steps.specs.Stamps.{Deed, Account, post, letters_of, do_one}
 use Rattle.protocol_steps.specs.Deeds.{posted_to, gained_from}
 use Rattle.protocol_steps.proofs.StartedLaws.{start_starts, step_started}
-use Rattle.worker_runs.specs.Cells.{CellState, Lane, peers, lane, grown, known_from}
+use Rattle.worker_laws.specs.Cells.{CellState, Lane, peers, lane, grown, known_from}
 use Rattle.protocol_steps.specs.Run.{ascends_from, has_nothing}
 use Rattle.protocol_steps.specs.Rounds.{link_share}
-use Rattle.worker_runs.specs.Visits.{IsFew, IsFrom, IsTo, IsStarted, IsQuiet, IsVisit}
-use Rattle.worker_runs.specs.Acts.{moment, IsLater}
-use Rattle.worker_runs.proofs.LaneLaws.{lane_grown, has_from_contains}
-use Rattle.worker_runs.proofs.VisitLaws.{quiet_later, event_later, later_then}
+use Rattle.worker_laws.specs.Visits.{IsFew, IsFrom, IsTo, IsStarted, IsQuiet, IsVisit}
+use Rattle.worker_laws.specs.Acts.{moment, IsLater}
+use Rattle.worker_laws.proofs.LaneLaws.{lane_grown, has_from_contains}
+use Rattle.worker_laws.proofs.VisitLaws.{quiet_later, event_later, later_then}
 use Rattle.agent_cells.specs.declared.fault.VisitFault.{VisitFault}
 use Rattle.agent_cells.specs.Receivers.{GoToNeighbours}
 use Rattle.agent_cells.specs.Links.{Tail, Head, lanes_sent, lanes_taken, known_of, AreSameTails, AreSameHeads}

@@ -14,8 +14,8 @@ use Rattle.protocol_steps.specs.declared.message.Message.{Message}
 use Rattle.protocol_steps.specs.Stamps.{Posted, post}
 use Rattle.protocol_steps.specs.Deeds.{envelope_to, posted_to}
 use Rattle.fifo_links.specs.Link.{sent_on}
-use Rattle.worker_runs.specs.Cells.{Lane, peers, grown}
-use Rattle.worker_runs.proofs.LaneLaws.{once, peers_grown, grown_grown, grown_none}
+use Rattle.worker_laws.specs.Cells.{Lane, peers, grown}
+use Rattle.worker_laws.proofs.LaneLaws.{once, peers_grown, grown_grown, grown_none}
 use Rattle.agent_cells.specs.Links.{Tail, lanes_sent}
 use Rattle.agent_cells.specs.Delivered.{HasDelivered}
 

@@ -20,9 +20,9 @@ use Rattle.protocol_steps.specs.Deeds.{takes_of, greatest_of, gain_from, gained_
 use Rattle.protocol_steps.proofs.PrivateLaws.{contains_from_has}
 use Rattle.fifo_links.specs.Slots.{ring_slots}
 use Rattle.fifo_links.specs.Link.{taken_from, known_to}
-use Rattle.worker_runs.specs.Cells.{Lane, peers, grown, known_from}
-use Rattle.worker_runs.specs.Visits.{IsFew, IsFrom}
-use Rattle.worker_runs.proofs.LaneLaws.{once, grown_none}
+use Rattle.worker_laws.specs.Cells.{Lane, peers, grown, known_from}
+use Rattle.worker_laws.specs.Visits.{IsFew, IsFrom}
+use Rattle.worker_laws.proofs.LaneLaws.{once, grown_none}
 use Rattle.agent_cells.specs.Links.{Head, lanes_taken, known_of}
 use Rattle.agent_cells.specs.Collected.{Finding, some_from, some_of, gains_in, HasCollected}
 

@@ -5,7 +5,7 @@ use Rattle.std.proofs.lemmas.List.Sums.{sum_by-cons, sum_by-append}
 use Rattle.std.proofs.Math.Seq.{map-set_same, take-length}
 use Rattle.protocol_steps.specs.declared.message.Message.{Message}
 use Rattle.fifo_links.specs.Link.{taken_from, known_to, SameHead}
-use Rattle.worker_runs.specs.Cells.{Lane, known_from}
+use Rattle.worker_laws.specs.Cells.{Lane, known_from}
 use Rattle.agent_cells.specs.Links.{Head, lanes_taken, known_of}
 use Rattle.agent_cells.specs.Collected.{HaveLooked, HasFoundNothing}
 use Rattle.agent_cells.proofs.SameLaws.{same_heads, heads_set}

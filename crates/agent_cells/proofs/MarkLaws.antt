@@ -7,7 +7,7 @@ use Rattle.std.proofs.lemmas.Option.{same_Some, slice_get_within}
 use Rattle.protocol_steps.specs.declared.message.Message.{Message}
 use Rattle.protocol_steps.specs.Stamps.{post}
 use Rattle.protocol_steps.specs.Deeds.{posted_to}
-use Rattle.worker_runs.specs.Cells.{Lane, lane, grown}
+use Rattle.worker_laws.specs.Cells.{Lane, lane, grown}
 use Rattle.agent_cells.specs.Links.{Tail, lanes_sent}
 use Rattle.agent_cells.specs.Delivered.{HasDelivered}
 use Rattle.agent_cells.specs.Marked.{StayMarked, AreMarked, LeavesUnmarked}

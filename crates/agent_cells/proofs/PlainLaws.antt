@@ -8,9 +8,9 @@ use Rattle.dcop_base.specs.Table.{has}
 use Rattle.dcop_base.proofs.UniqueLaws.{IsStrictlyIncreasing-tail}
 use Rattle.protocol_steps.specs.declared.message.Message.{Message}
 use Rattle.fifo_links.specs.Link.{sent_on, backlog_of, taken_from, known_to}
-use Rattle.worker_runs.specs.Cells.{CellState, Lane, peers, lane, known_from}
-use Rattle.worker_runs.specs.CellRounds.{IsSettled}
-use Rattle.worker_runs.proofs.LaneLaws.{once, lane_none}
+use Rattle.worker_laws.specs.Cells.{CellState, Lane, peers, lane, known_from}
+use Rattle.worker_laws.specs.CellRounds.{IsSettled}
+use Rattle.worker_laws.proofs.LaneLaws.{once, lane_none}
 use Rattle.agent_cells.specs.Links.{Tail, Head, lanes_sent, lanes_taken, known_of}
 use Rattle.agent_cells.specs.Settled.{StandsAt, EndsAreSettled}
 

@@ -12,7 +12,7 @@ use Rattle.protocol_steps.specs.declared.message.Message.{Message}
 use Rattle.fifo_links.specs.declared.ends.LinkTail.{LinkTail}
 use Rattle.fifo_links.specs.declared.ends.LinkHead.{LinkHead}
 use Rattle.fifo_links.specs.Link.{AreEnds, IsSettled, SameTail, SameHead, sent_on, taken_from, known_to}
-use Rattle.worker_runs.specs.Cells.{Lane, peers}
+use Rattle.worker_laws.specs.Cells.{Lane, peers}
 use Rattle.agent_cells.specs.Links.{Tail, Head, lanes_sent, lanes_taken}
 use Rattle.agent_cells.specs.Settled.{StandsAt, TailJoins, HeadJoins, EndsJoin, SettlesTail, SettlesHead, TailIsSettled, HeadIsSettled, EndsAreSettled}
 use Rattle.agent_cells.proofs.SameLaws.{same_tails, same_heads, tails_set, heads_set}

@@ -7,7 +7,7 @@ use Rattle.protocol_steps.specs.Stamps.{Gain, letters_of}
 use Rattle.protocol_steps.specs.Deeds.{takes_of, greatest_of, greatest_from}
 use Rattle.fifo_links.specs.Slots.{ring_slots}
 use Rattle.fifo_links.specs.Link.{taken_from, known_to}
-use Rattle.worker_runs.specs.Cells.{known_from}
+use Rattle.worker_laws.specs.Cells.{known_from}
 use Rattle.agent_cells.specs.Links.{Head, IsSameHead, AreSameHeads, lanes_taken, known_of}
 
 -- one head before and after it took all that it found, and what it took: at least what it knew of,

@@ -3,7 +3,7 @@ use Rattle.std.specs.Prelude.{◌≡◌, ℕ, List}
 use Rattle.protocol_steps.specs.declared.message.Message.{Message}
 use Rattle.protocol_steps.specs.Stamps.{post}
 use Rattle.protocol_steps.specs.Deeds.{posted_to}
-use Rattle.worker_runs.specs.Cells.{grown}
+use Rattle.worker_laws.specs.Cells.{grown}
 use Rattle.agent_cells.specs.Links.{Tail, lanes_sent}
 
 -- each parcel was sent to its receiver with this stamp, after all that was sent before

@@ -4,8 +4,8 @@ use Rattle.std.specs.List.{All, sum_by}
 use Rattle.dcop_base.specs.Limits.{amount_limit}
 use Rattle.protocol_steps.specs.Stamps.{Gain}
 use Rattle.protocol_steps.specs.Deeds.{greatest_of, gained_from}
-use Rattle.worker_runs.specs.Cells.{CellState, peers, grown}
-use Rattle.worker_runs.specs.Visits.{IsFew, IsFrom}
+use Rattle.worker_laws.specs.Cells.{CellState, peers, grown}
+use Rattle.worker_laws.specs.Visits.{IsFew, IsFrom}
 
 -- something was taken from the cell's peers, and the greatest of the cell's stamp and the taken
 -- stamps is the last value of a stamp: the agent has made no step, and nothing was sent

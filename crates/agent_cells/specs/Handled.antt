@@ -6,7 +6,7 @@ use Rattle.protocol_steps.specs.declared.event.Take.{Take}
 use Rattle.protocol_steps.specs.Machine.{IsStep}
 use Rattle.protocol_steps.specs.Stamps.{post}
 use Rattle.protocol_steps.specs.Deeds.{posted_to}
-use Rattle.worker_runs.specs.Cells.{CellState, grown}
+use Rattle.worker_laws.specs.Cells.{CellState, grown}
 use Rattle.agent_cells.specs.Receivers.{GoToNeighbours}
 
 -- the agent has made one step on what was taken: the new stamp is 1 plus the greatest, what the

@@ -4,7 +4,7 @@ use Rattle.fifo_links.specs.declared.ends.LinkTail.{LinkTail}
 use Rattle.fifo_links.specs.declared.ends.LinkHead.{LinkHead}
 use Rattle.fifo_links.specs.Link.{sent_on, taken_from, known_to, SameTail, SameHead}
 use Rattle.protocol_steps.specs.declared.message.Message.{Message}
-use Rattle.worker_runs.specs.Cells.{Lane}
+use Rattle.worker_laws.specs.Cells.{Lane}
 
 abbrev pub Tail : Type 0
 Tail = ℕ × LinkTail (ℕ × Message)

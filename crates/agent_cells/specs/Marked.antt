@@ -2,7 +2,7 @@
 use Rattle.std.specs.Prelude.{◌≡◌, ◌≢◌, ℕ, Bool, true, false, List, length, slice_get, Some}
 use Rattle.std.specs.List.{All}
 use Rattle.protocol_steps.specs.declared.message.Message.{Message}
-use Rattle.worker_runs.specs.Cells.{Lane, lane}
+use Rattle.worker_laws.specs.Cells.{Lane, lane}
 
 -- there are as many marks as before, and each mark that was set is still set
 pub record StayMarked (before after : List Bool) : Type 0 where

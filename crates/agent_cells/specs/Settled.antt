@@ -5,7 +5,7 @@ use Rattle.fifo_links.specs.declared.ends.LinkTail.{LinkTail}
 use Rattle.fifo_links.specs.declared.ends.LinkHead.{LinkHead}
 use Rattle.fifo_links.specs.Link.{AreEnds, IsSettled, known_to}
 use Rattle.dcop_base.specs.Table.{has}
-use Rattle.worker_runs.specs.Cells.{CellState, peers}
+use Rattle.worker_laws.specs.Cells.{CellState, peers}
 use Rattle.agent_cells.specs.Links.{Tail, Head, lanes_sent, lanes_taken, AreSameTails, AreSameHeads}
 
 -- x is the element at place k of the list

@@ -5,9 +5,9 @@ use Rattle.std.specs.declared.dyn_box.DynBox.{DynBox}
 use Rattle.std.specs.declared.alloc.Global.{Global}
 use Rattle.protocol_steps.specs.View.{View, private_of, started_of}
 use Rattle.protocol_steps.specs.Stamps.{Deed}
-use Rattle.worker_runs.specs.Cells.{CellState, peers, lane}
-use Rattle.worker_runs.specs.Visits.{IsStarted}
-use Rattle.worker_runs.specs.Acts.{IsLater}
+use Rattle.worker_laws.specs.Cells.{CellState, peers, lane}
+use Rattle.worker_laws.specs.Visits.{IsStarted}
+use Rattle.worker_laws.specs.Acts.{IsLater}
 use Rattle.agent_cells.specs.declared.fault.VisitFault.{VisitFault}
 use Rattle.agent_cells.specs.declared.cell.Cell.{Cell}
 use Rattle.agent_cells.specs.Links.{Tail, Head, lanes_sent, lanes_taken, known_of, AreSameTails, AreSameHeads}

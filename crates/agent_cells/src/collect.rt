@@ -5,7 +5,7 @@ ghost use Rattle.std.specs.Vec.{vec_len, vec_capacity};
 ghost use Rattle.dcop_base.specs.Limits.{amount_limit};
 ghost use Rattle.protocol_steps.specs.Deeds.{greatest_from};
 ghost use Rattle.fifo_links.specs.Slots.{ring_slots};
-ghost use Rattle.worker_runs.specs.Cells.{known_from};
+ghost use Rattle.worker_laws.specs.Cells.{known_from};
 ghost use Rattle.agent_cells.specs.Collected.{HasFound, HasCollected, HaveLooked, HasFoundNothing, HasLookedAndCollected};
 ghost use Rattle.agent_cells.specs.Links.{IsSameHead, AreSameHeads, known_of};
 

@@ -4,7 +4,7 @@ ghost use Rattle.std.specs.Prelude.{◌≡◌, ◌==◌, ◌∷◌, [], ◌≤�
 ghost use Rattle.std.specs.List.{position};
 ghost use Rattle.std.specs.List.Sorted.{IsStrictlyIncreasing};
 ghost use Rattle.dcop_base.specs.Limits.{amount_limit};
-ghost use Rattle.worker_runs.specs.Cells.{peers};
+ghost use Rattle.worker_laws.specs.Cells.{peers};
 ghost use Rattle.agent_cells.specs.Links.{lanes_sent, AreSameTails};
 ghost use Rattle.agent_cells.specs.Delivered.{HasDelivered};
 

@@ -10,9 +10,9 @@ use Rattle.dcop_base.specs.Table.{CostTable}
 use Rattle.pseudotree.specs.declared.agent.Place.{Place}
 use Rattle.protocol_steps.specs.declared.standing.Standing.{Standing}
 use Rattle.protocol_steps.specs.View.{View, ended_of, value_of, standing_of, table_of, place_of}
-use Rattle.worker_runs.specs.Cells.{CellState}
-use Rattle.worker_runs.specs.CellRounds.{total}
-use Rattle.worker_runs.specs.CellRuns.{all_ended, IsCellOutcome}
+use Rattle.worker_laws.specs.Cells.{CellState}
+use Rattle.worker_laws.specs.CellRounds.{total}
+use Rattle.worker_laws.specs.CellRuns.{all_ended, IsCellOutcome}
 use Rattle.agent_cells.specs.declared.cell.Cell.{Cell}
 use Rattle.agent_cells.specs.State.{state_of}
 use Rattle.agent_workers.specs.Joined.{states_of}

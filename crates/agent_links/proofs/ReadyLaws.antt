@@ -11,8 +11,8 @@ use Rattle.dcop_base.specs.Limits.{variable_limit}
 use Rattle.dcop_base.proofs.FirstLaws.{Contains-filter, Contains-range, IsStrictlyIncreasing-range}
 use Rattle.dcop_base.proofs.KnowledgeLaws.{All-filter-range}
 use Rattle.protocol_steps.specs.View.{View}
-use Rattle.worker_runs.specs.Cells.{peers, IsWired}
-use Rattle.worker_runs.specs.NodeRounds.{home}
+use Rattle.worker_laws.specs.Cells.{peers, IsWired}
+use Rattle.worker_laws.specs.OneNode.{home}
 use Rattle.agent_cells.specs.declared.cell.Cell.{Cell}
 use Rattle.agent_cells.specs.Links.{Tail, Head, lanes_sent, lanes_taken}
 use Rattle.agent_cells.specs.Settled.{EndsJoin}

@@ -1,3 +1,5 @@
 pub mod Beside
 pub mod Links
 pub mod Ready
+pub mod Kinds
+pub mod Seats

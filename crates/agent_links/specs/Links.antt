@@ -7,7 +7,7 @@ use Rattle.protocol_steps.specs.declared.message.Message.{Message}
 use Rattle.fifo_links.specs.declared.ends.LinkTail.{LinkTail}
 use Rattle.fifo_links.specs.declared.ends.LinkHead.{LinkHead}
 use Rattle.fifo_links.specs.Link.{AreEnds, sent_on, taken_from}
-use Rattle.worker_runs.specs.Cells.{peers}
+use Rattle.worker_laws.specs.Cells.{peers}
 use Rattle.agent_cells.specs.Links.{Tail, Head, lanes_sent, lanes_taken}
 use Rattle.agent_cells.specs.Settled.{EndsJoin}
 

@@ -1,15 +1,23 @@
-//! The links between agents, and cells over them.
+//! The agents of a problem, each with the ends of its links, and the cells over them.
 //!
-//! [`link_all`] makes a link from each agent to each of its neighbours. The caller boxes the agents
-//! and puts them into cells over these links, which are then ready to run. [`make_each`] has the
-//! loop for it, and needs no box. When the run has ended, [`outcome_of`] reads the outcome of the
-//! agents from the cells.
+//! [`link_all`] makes a link from each agent to each of its neighbours. [`seats_of`] makes the
+//! agents of a [`Start`](delivery_core::Start), which gives their kind and the tree on which they
+//! run, and gives each the ends of its links. An agent is a plain value here: whoever runs the
+//! agents boxes each one and puts it into a cell with its ends. The cells are then ready to run.
+//! [`make_each`] has the loop for it, and needs no box. When the run has ended, [`outcome_of`]
+//! reads the outcome of the agents from the cells.
 #![tactic(auto)]
 
+mod agent;
 mod fill;
 mod links;
 mod outcome;
+mod seat;
+mod seats;
 
+pub use agent::Agent;
 pub use fill::make_each;
 pub use links::{Links, link_all};
 pub use outcome::outcome_of;
+pub use seat::Seat;
+pub use seats::{known_in, seat_all, seats_of};

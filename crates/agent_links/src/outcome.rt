@@ -2,8 +2,8 @@
 
 ghost use Rattle.std.specs.Prelude.{◌≡◌, ◌<◌, ◌≤◌, length, map, IfOk, MatchOption, Some, None};
 ghost use Rattle.protocol_steps.specs.View.{value_of, table_of, place_of};
-ghost use Rattle.worker_runs.specs.CellRounds.{total};
-ghost use Rattle.worker_runs.specs.CellRuns.{all_ended as have_all_ended, IsCellOutcome};
+ghost use Rattle.worker_laws.specs.CellRounds.{total};
+ghost use Rattle.worker_laws.specs.CellRuns.{all_ended as have_all_ended, IsCellOutcome};
 ghost use Rattle.agent_cells.specs.State.{state_of};
 ghost use Rattle.agent_workers.specs.Joined.{states_of};
 ghost use Rattle.agent_links.specs.Ready.{deliveries_in};

@@ -10,11 +10,11 @@ use Rattle.std.specs.declared.dyn_box.DynBox.{DynBox}
 use Rattle.std.specs.declared.alloc.Global.{Global}
 use Rattle.dcop_base.specs.Limits.{variable_limit}
 use Rattle.protocol_steps.specs.View.{View, ended_of}
-use Rattle.worker_runs.specs.Cells.{CellState, EachAre}
-use Rattle.worker_runs.specs.Visits.{IsQuiet, IsVisit}
-use Rattle.worker_runs.specs.CellRounds.{taken_by, total}
-use Rattle.worker_runs.specs.StampCounts.{IsMoved}
-use Rattle.worker_runs.proofs.VisitLaws.{quiet_later, event_later, totals_add}
+use Rattle.worker_laws.specs.Cells.{CellState, EachAre}
+use Rattle.worker_laws.specs.Visits.{IsQuiet, IsVisit}
+use Rattle.worker_laws.specs.CellRounds.{taken_by, total}
+use Rattle.worker_laws.specs.StampCounts.{IsMoved}
+use Rattle.worker_laws.proofs.VisitLaws.{quiet_later, event_later, totals_add}
 use Rattle.agent_cells.specs.declared.cell.Cell.{Cell}
 use Rattle.agent_cells.specs.declared.fault.VisitFault.{VisitFault}
 use Rattle.agent_cells.specs.declared.fault.VisitFault.TheVariants.{NoMemory, StampEnd}

@@ -15,14 +15,14 @@ use Rattle.protocol_steps.specs.View.{View}
 use Rattle.protocol_steps.specs.Stamps.{Gain}
 use Rattle.protocol_steps.specs.Deeds.{greatest_from, gain_from, gained_from}
 use Rattle.protocol_steps.specs.StampLaw.{IsPrefix}
-use Rattle.worker_runs.specs.Cells.{CellState, Lane, peers, lane, EachAre}
-use Rattle.worker_runs.specs.Visits.{IsFrom, IsQuiet}
-use Rattle.worker_runs.specs.CellRounds.{AreSettled, AreStarted, total}
-use Rattle.worker_runs.specs.StampCounts.{IsMoved, ArePrefixes, IsCellWithin}
-use Rattle.worker_runs.proofs.LaneLaws.{lane_grown, peers_grown, has_from_contains}
-use Rattle.worker_runs.proofs.EachLaws.{each_long, each_back, each_on, there}
-use Rattle.worker_runs.proofs.VisitLaws.{later_then}
-use Rattle.worker_runs.proofs.CellStampLaws.{cell_stamps_are_few}
+use Rattle.worker_laws.specs.Cells.{CellState, Lane, peers, lane, EachAre}
+use Rattle.worker_laws.specs.Visits.{IsFrom, IsQuiet}
+use Rattle.worker_laws.specs.CellRounds.{AreSettled, AreStarted, total}
+use Rattle.worker_laws.specs.StampCounts.{IsMoved, ArePrefixes, IsCellWithin}
+use Rattle.worker_laws.proofs.LaneLaws.{lane_grown, peers_grown, has_from_contains}
+use Rattle.worker_laws.proofs.EachLaws.{each_long, each_back, each_on, there}
+use Rattle.worker_laws.proofs.VisitLaws.{later_then}
+use Rattle.worker_laws.proofs.CellStampLaws.{cell_stamps_are_few}
 use Rattle.agent_cells.specs.declared.cell.Cell.{Cell}
 use Rattle.agent_cells.specs.declared.fault.VisitFault.TheVariants.{StampEnd}
 use Rattle.agent_cells.specs.State.{state_of}

@@ -6,9 +6,9 @@ use Rattle.std.specs.declared.dyn_box.DynBox.{DynBox}
 use Rattle.std.specs.declared.alloc.Global.{Global}
 use Rattle.protocol_steps.specs.View.{View}
 use Rattle.fifo_links.specs.Link.{known_to}
-use Rattle.worker_runs.specs.Cells.{CellState, peers, lane, known_from}
-use Rattle.worker_runs.specs.Visits.{IsQuiet}
-use Rattle.worker_runs.specs.CellRounds.{IsSettled}
+use Rattle.worker_laws.specs.Cells.{CellState, peers, lane, known_from}
+use Rattle.worker_laws.specs.Visits.{IsQuiet}
+use Rattle.worker_laws.specs.CellRounds.{IsSettled}
 use Rattle.agent_cells.specs.declared.cell.Cell.{Cell}
 use Rattle.agent_cells.specs.Links.{Tail, Head, known_of, AreSameTails, AreSameHeads}
 use Rattle.std.specs.List.Sorted.{IsStrictlyIncreasing}

@@ -9,9 +9,9 @@ use Rattle.std.specs.declared.dyn_box.DynBox.{DynBox}
 use Rattle.std.specs.declared.alloc.Global.{Global}
 use Rattle.protocol_steps.specs.View.{View}
 use Rattle.fifo_links.specs.Link.{AreEnds}
-use Rattle.worker_runs.specs.Cells.{CellState, peers, IsWired}
-use Rattle.worker_runs.specs.NodeRounds.{home}
-use Rattle.worker_runs.proofs.EachLaws.{there}
+use Rattle.worker_laws.specs.Cells.{CellState, peers, IsWired}
+use Rattle.worker_laws.specs.OneNode.{home}
+use Rattle.worker_laws.proofs.EachLaws.{there}
 use Rattle.agent_cells.specs.declared.cell.Cell.{Cell}
 use Rattle.agent_cells.specs.Links.{Tail, Head, AreSameTails, AreSameHeads}
 use Rattle.agent_cells.specs.Settled.{EndsJoin}

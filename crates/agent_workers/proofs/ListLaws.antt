@@ -3,7 +3,7 @@ use Rattle.std.proofs.Common.{◌≡◌, ◌≢◌, ℕ, zero, suc, ◌+◌, ◌
 use Rattle.std.proofs.lemmas.Option.{none-some, same_Some, slice_get_read}
 use Rattle.std.proofs.lemmas.List.{get_or_append_left, get_or-append_right, get_or-set_same, get_or-set_other, get_or_default}
 use Rattle.std.proofs.lemmas.Bool.{cases_order}
-use Rattle.worker_runs.specs.Cells.{EachAre}
+use Rattle.worker_laws.specs.Cells.{EachAre}
 
 module _ {A : Type 0} (R : A → A → A → A → Type 0) where
   pub four : (a b c d w x y z : A) → w ≡ a → x ≡ b → y ≡ c → z ≡ d → R a b c d → R w x y z

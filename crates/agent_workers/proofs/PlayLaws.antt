@@ -12,9 +12,9 @@ use Rattle.std.specs.declared.alloc.Global.{Global}
 use Rattle.dcop_base.specs.Limits.{variable_limit}
 use Rattle.protocol_steps.specs.View.{View, ended_of}
 use Rattle.protocol_steps.specs.Rounds.{most_events}
-use Rattle.worker_runs.specs.Cells.{CellState}
-use Rattle.worker_runs.specs.CellRounds.{taken_by, total}
-use Rattle.worker_runs.proofs.VisitLaws.{sprints_are_visits, totals_add}
+use Rattle.worker_laws.specs.Cells.{CellState}
+use Rattle.worker_laws.specs.CellRounds.{taken_by, total}
+use Rattle.worker_laws.proofs.VisitLaws.{sprints_are_visits, totals_add}
 use Rattle.agent_cells.specs.declared.cell.Cell.{Cell}
 use Rattle.agent_cells.specs.declared.fault.VisitFault.{VisitFault}
 use Rattle.agent_cells.specs.State.{state_of, fault_in}

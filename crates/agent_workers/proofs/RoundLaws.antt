@@ -8,11 +8,11 @@ use Rattle.std.specs.declared.dyn_box.DynBox.{DynBox}
 use Rattle.std.specs.declared.alloc.Global.{Global}
 use Rattle.protocol_steps.specs.View.{View}
 use Rattle.protocol_steps.specs.Rounds.{most_events}
-use Rattle.worker_runs.specs.Cells.{Lane, peers}
-use Rattle.worker_runs.specs.Sprints.{IsSprint}
-use Rattle.worker_runs.specs.CellRounds.{total}
-use Rattle.worker_runs.specs.NodeRounds.{home, IsPartRound}
-use Rattle.worker_runs.proofs.VisitLaws.{totals_add}
+use Rattle.worker_laws.specs.Cells.{Lane, peers}
+use Rattle.worker_laws.specs.Sprints.{IsSprint}
+use Rattle.worker_laws.specs.CellRounds.{total}
+use Rattle.worker_laws.specs.OneNode.{home, IsPartRound}
+use Rattle.worker_laws.proofs.VisitLaws.{totals_add}
 use Rattle.agent_cells.specs.declared.cell.Cell.{Cell}
 use Rattle.agent_cells.specs.declared.fault.VisitFault.{VisitFault}
 use Rattle.agent_cells.specs.State.{state_of, fault_in, IsCell}

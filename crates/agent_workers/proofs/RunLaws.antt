@@ -9,15 +9,15 @@ use Rattle.std.specs.declared.alloc.Global.{Global}
 use Rattle.protocol_steps.specs.declared.run_end.RunEnd.{RunEnd}
 use Rattle.protocol_steps.specs.declared.run_end.RunEnd.TheVariants.{AllEnded, Spent, Still}
 use Rattle.protocol_steps.specs.View.{View, ended_of}
-use Rattle.worker_runs.specs.Cells.{CellState, IsWired, EachAre}
-use Rattle.worker_runs.specs.Visits.{IsStarted, IsQuiet}
-use Rattle.worker_runs.specs.CellRounds.{AreSettled, AreStarted, IsCellRound, AreCellRounds, taken_by, total}
-use Rattle.worker_runs.specs.CellRuns.{all_ended, MakesARun}
-use Rattle.worker_runs.specs.NodeRounds.{home, IsPartRound, IsSettling}
-use Rattle.worker_runs.specs.Played.{ArePlayed}
-use Rattle.worker_runs.proofs.VisitLaws.{totals_add}
-use Rattle.worker_runs.proofs.NodeLaws.{one_node_is_all}
-use Rattle.worker_runs.proofs.PlayedLaws.{played_cells_make_runs}
+use Rattle.worker_laws.specs.Cells.{CellState, IsWired, EachAre}
+use Rattle.worker_laws.specs.Visits.{IsStarted, IsQuiet}
+use Rattle.worker_laws.specs.CellRounds.{AreSettled, AreStarted, IsCellRound, AreCellRounds, taken_by, total}
+use Rattle.worker_laws.specs.CellRuns.{all_ended, MakesARun}
+use Rattle.worker_laws.specs.OneNode.{home, IsPartRound, IsSettling}
+use Rattle.worker_laws.specs.Played.{ArePlayed}
+use Rattle.worker_laws.proofs.VisitLaws.{totals_add}
+use Rattle.worker_laws.proofs.NodeLaws.{one_node_is_all}
+use Rattle.worker_laws.proofs.PlayedLaws.{played_cells_make_runs}
 use Rattle.agent_cells.specs.declared.cell.Cell.{Cell}
 use Rattle.agent_cells.specs.declared.fault.VisitFault.TheVariants.{StampEnd}
 use Rattle.agent_cells.specs.State.{state_of, begun_in, fault_in, IsCell}

@@ -5,7 +5,7 @@ use Rattle.std.specs.declared.dyn_box.DynBox.{DynBox}
 use Rattle.std.specs.declared.alloc.Global.{Global}
 use Rattle.dcop_base.specs.Limits.{variable_limit}
 use Rattle.protocol_steps.specs.View.{View}
-use Rattle.worker_runs.specs.Cells.{Lane, peers, lane}
+use Rattle.worker_laws.specs.Cells.{Lane, peers, lane}
 use Rattle.agent_cells.specs.declared.cell.Cell.{Cell}
 use Rattle.agent_cells.specs.Marked.{LeavesUnmarked}
 use Rattle.agent_cells.specs.State.{state_of, IsCell, KeepsLinks}

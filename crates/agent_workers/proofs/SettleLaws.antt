@@ -10,12 +10,12 @@ use Rattle.std.specs.declared.alloc.Global.{Global}
 use Rattle.dcop_base.specs.Table.{has}
 use Rattle.protocol_steps.specs.View.{View}
 use Rattle.protocol_steps.proofs.PrivateLaws.{contains_from_has}
-use Rattle.worker_runs.specs.Cells.{CellState, peers, lane, known_from}
-use Rattle.worker_runs.specs.Visits.{IsQuiet}
-use Rattle.worker_runs.specs.CellRounds.{IsSettled}
-use Rattle.worker_runs.specs.NodeRounds.{home, IsSettling}
-use Rattle.worker_runs.proofs.LaneLaws.{lane_none, has_from_contains}
-use Rattle.worker_runs.proofs.EachLaws.{there}
+use Rattle.worker_laws.specs.Cells.{CellState, peers, lane, known_from}
+use Rattle.worker_laws.specs.Visits.{IsQuiet}
+use Rattle.worker_laws.specs.CellRounds.{IsSettled}
+use Rattle.worker_laws.specs.OneNode.{home, IsSettling}
+use Rattle.worker_laws.proofs.LaneLaws.{lane_none, has_from_contains}
+use Rattle.worker_laws.proofs.EachLaws.{there}
 use Rattle.agent_cells.specs.declared.cell.Cell.{Cell}
 use Rattle.agent_cells.specs.State.{state_of, IsCell}
 use Rattle.agent_workers.specs.Joined.{states_of, EachIs, EachBecomes, IsJoined}

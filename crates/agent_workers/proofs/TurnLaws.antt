@@ -9,12 +9,12 @@ use Rattle.std.specs.declared.dyn_box.DynBox.{DynBox}
 use Rattle.std.specs.declared.alloc.Global.{Global}
 use Rattle.dcop_base.specs.Limits.{variable_limit}
 use Rattle.protocol_steps.specs.View.{View}
-use Rattle.worker_runs.specs.Cells.{lane}
+use Rattle.worker_laws.specs.Cells.{lane}
 use Rattle.agent_cells.specs.declared.cell.Cell.{Cell}
 use Rattle.agent_cells.specs.declared.fault.VisitFault.{VisitFault}
 use Rattle.agent_cells.specs.State.{state_of}
-use Rattle.worker_runs.specs.CellRounds.{total}
-use Rattle.worker_runs.specs.NodeRounds.{IsSettling}
+use Rattle.worker_laws.specs.CellRounds.{total}
+use Rattle.worker_laws.specs.OneNode.{IsSettling}
 use Rattle.agent_workers.specs.Joined.{states_of}
 use Rattle.agent_workers.specs.Turns.{HasTurned, AreTurning}
 use Rattle.agent_workers.specs.Watched.{IsUnmarked, AreUnmarked, all_due, MarksReceivers, MarksWaiting, PassesUnmarked, PassesNone, AreTurns, IsPlayedInTurns, IsTurnRound}

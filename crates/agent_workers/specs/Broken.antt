@@ -4,11 +4,11 @@ use Rattle.std.specs.declared.dyn_box.DynBox.{DynBox}
 use Rattle.std.specs.declared.alloc.Global.{Global}
 use Rattle.protocol_steps.specs.View.{View}
 use Rattle.protocol_steps.specs.Stamps.{Deed}
-use Rattle.worker_runs.specs.Cells.{CellState, EachAre}
-use Rattle.worker_runs.specs.Acts.{IsLater}
-use Rattle.worker_runs.specs.CellRounds.{total}
-use Rattle.worker_runs.specs.Played.{ArePlayed}
-use Rattle.worker_runs.specs.StampCounts.{IsMoved}
+use Rattle.worker_laws.specs.Cells.{CellState, EachAre}
+use Rattle.worker_laws.specs.Acts.{IsLater}
+use Rattle.worker_laws.specs.CellRounds.{total}
+use Rattle.worker_laws.specs.Played.{ArePlayed}
+use Rattle.worker_laws.specs.StampCounts.{IsMoved}
 use Rattle.agent_cells.specs.declared.cell.Cell.{Cell}
 use Rattle.agent_cells.specs.State.{state_of, fault_in}
 use Rattle.agent_cells.specs.Failed.{HasReachedEnd}

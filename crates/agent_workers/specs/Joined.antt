@@ -5,8 +5,8 @@ use Rattle.std.specs.declared.dyn_box.DynBox.{DynBox}
 use Rattle.std.specs.declared.alloc.Global.{Global}
 use Rattle.dcop_base.specs.Limits.{variable_limit}
 use Rattle.protocol_steps.specs.View.{View}
-use Rattle.worker_runs.specs.Cells.{CellState, peers, IsWired}
-use Rattle.worker_runs.specs.NodeRounds.{home}
+use Rattle.worker_laws.specs.Cells.{CellState, peers, IsWired}
+use Rattle.worker_laws.specs.OneNode.{home}
 use Rattle.agent_cells.specs.declared.cell.Cell.{Cell}
 use Rattle.agent_cells.specs.Settled.{EndsJoin}
 use Rattle.agent_cells.specs.State.{state_of, begun_in, tails_in, heads_in, IsCell, KeepsLinks}

@@ -5,11 +5,11 @@ use Rattle.std.specs.declared.alloc.Global.{Global}
 use Rattle.protocol_steps.specs.declared.run_end.RunEnd.{RunEnd}
 use Rattle.protocol_steps.specs.declared.run_end.RunEnd.TheVariants.{AllEnded, Spent, Still}
 use Rattle.protocol_steps.specs.View.{View}
-use Rattle.worker_runs.specs.Cells.{CellState, EachAre}
-use Rattle.worker_runs.specs.Visits.{IsStarted, IsQuiet}
-use Rattle.worker_runs.specs.CellRounds.{AreSettled, AreStarted, IsCellRound, AreCellRounds, total}
-use Rattle.worker_runs.specs.CellRuns.{all_ended}
-use Rattle.worker_runs.specs.Played.{ArePlayed}
+use Rattle.worker_laws.specs.Cells.{CellState, EachAre}
+use Rattle.worker_laws.specs.Visits.{IsStarted, IsQuiet}
+use Rattle.worker_laws.specs.CellRounds.{AreSettled, AreStarted, IsCellRound, AreCellRounds, total}
+use Rattle.worker_laws.specs.CellRuns.{all_ended}
+use Rattle.worker_laws.specs.Played.{ArePlayed}
 use Rattle.agent_cells.specs.declared.cell.Cell.{Cell}
 use Rattle.agent_cells.specs.State.{state_of, fault_in}
 use Rattle.agent_workers.specs.Joined.{EachBecomes, HasBegun, IsSameCell}

@@ -3,10 +3,10 @@ use Rattle.std.specs.Prelude.{◌≡◌, ◌≢◌, ℕ, ◌<◌, ◌≤◌, ◌
 use Rattle.std.specs.declared.dyn_box.DynBox.{DynBox}
 use Rattle.std.specs.declared.alloc.Global.{Global}
 use Rattle.protocol_steps.specs.View.{View}
-use Rattle.worker_runs.specs.Cells.{peers, known_from}
-use Rattle.worker_runs.specs.Visits.{IsQuiet}
-use Rattle.worker_runs.specs.CellRounds.{IsSettled}
-use Rattle.worker_runs.specs.NodeRounds.{home}
+use Rattle.worker_laws.specs.Cells.{peers, known_from}
+use Rattle.worker_laws.specs.Visits.{IsQuiet}
+use Rattle.worker_laws.specs.CellRounds.{IsSettled}
+use Rattle.worker_laws.specs.OneNode.{home}
 use Rattle.agent_cells.specs.declared.cell.Cell.{Cell}
 use Rattle.dcop_base.specs.Table.{has}
 use Rattle.agent_cells.specs.State.{state_of, begun_in, fault_in, IsCell, KeepsLinks}

@@ -3,8 +3,8 @@ use Rattle.std.specs.Prelude.{◌≡◌, ℕ, zero, suc, ◌<◌, ◌≤◌, Boo
 use Rattle.std.specs.declared.dyn_box.DynBox.{DynBox}
 use Rattle.std.specs.declared.alloc.Global.{Global}
 use Rattle.protocol_steps.specs.View.{View}
-use Rattle.worker_runs.specs.CellRounds.{AreCellRounds}
-use Rattle.worker_runs.specs.NodeRounds.{home, IsSettling}
+use Rattle.worker_laws.specs.CellRounds.{AreCellRounds}
+use Rattle.worker_laws.specs.OneNode.{home, IsSettling}
 use Rattle.agent_cells.specs.declared.cell.Cell.{Cell}
 use Rattle.agent_workers.specs.Joined.{states_of, EachBecomes}
 use Rattle.agent_workers.specs.Settled.{StaysQuiet}

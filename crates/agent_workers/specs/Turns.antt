@@ -5,9 +5,9 @@ use Rattle.std.specs.declared.alloc.Global.{Global}
 use Rattle.dcop_base.specs.Limits.{variable_limit}
 use Rattle.protocol_steps.specs.View.{View, ended_of}
 use Rattle.protocol_steps.specs.Rounds.{most_events, link_share}
-use Rattle.worker_runs.specs.Visits.{IsVisit}
-use Rattle.worker_runs.specs.Sprints.{IsSprint}
-use Rattle.worker_runs.specs.CellRounds.{total}
+use Rattle.worker_laws.specs.Visits.{IsVisit}
+use Rattle.worker_laws.specs.Sprints.{IsSprint}
+use Rattle.worker_laws.specs.CellRounds.{total}
 use Rattle.agent_cells.specs.declared.cell.Cell.{Cell}
 use Rattle.agent_cells.specs.declared.fault.VisitFault.{VisitFault}
 use Rattle.agent_cells.specs.State.{state_of, fault_in}

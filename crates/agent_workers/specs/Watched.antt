@@ -7,9 +7,9 @@ use Rattle.dcop_base.specs.Limits.{variable_limit}
 use Rattle.protocol_steps.specs.declared.message.Message.{Message}
 use Rattle.protocol_steps.specs.View.{View}
 use Rattle.protocol_steps.specs.Rounds.{most_events}
-use Rattle.worker_runs.specs.Cells.{Lane, lane}
-use Rattle.worker_runs.specs.CellRounds.{total}
-use Rattle.worker_runs.specs.NodeRounds.{IsSettling}
+use Rattle.worker_laws.specs.Cells.{Lane, lane}
+use Rattle.worker_laws.specs.CellRounds.{total}
+use Rattle.worker_laws.specs.OneNode.{IsSettling}
 use Rattle.agent_cells.specs.declared.cell.Cell.{Cell}
 use Rattle.agent_cells.specs.State.{state_of}
 use Rattle.agent_workers.specs.Joined.{states_of}

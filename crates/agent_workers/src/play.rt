@@ -3,7 +3,7 @@
 ghost use Rattle.std.specs.Prelude.{◌≡◌, ◌≤◌, ◌<◌, ℕ, length, true, false, IfOk, OnOk, IfErr, None, Some};
 ghost use Rattle.dcop_base.specs.Limits.{variable_limit};
 ghost use Rattle.protocol_steps.specs.Rounds.{most_events};
-ghost use Rattle.worker_runs.specs.Cells.{known_from};
+ghost use Rattle.worker_laws.specs.Cells.{known_from};
 ghost use Rattle.agent_cells.specs.declared.fault.VisitFault.TheVariants.{StampEnd as stamp_end};
 ghost use Rattle.agent_cells.specs.Failed.{HasReachedEnd};
 ghost use Rattle.agent_cells.specs.State.{state_of, fault_in};

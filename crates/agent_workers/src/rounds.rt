@@ -1,9 +1,9 @@
 //! A round of cells.
 
 ghost use Rattle.std.specs.Prelude.{◌≡◌, ◌≤◌, ◌<◌, ◌+◌, ◌*◌, length, IfOk, OnOk, IfErr, None};
-ghost use Rattle.worker_runs.specs.CellRounds.{total};
-ghost use Rattle.worker_runs.specs.NodeRounds.{home, IsPartRound};
-ghost use Rattle.worker_runs.specs.StampCounts.{IsMoved};
+ghost use Rattle.worker_laws.specs.CellRounds.{total};
+ghost use Rattle.worker_laws.specs.OneNode.{home, IsPartRound};
+ghost use Rattle.worker_laws.specs.StampCounts.{IsMoved};
 ghost use Rattle.agent_cells.specs.declared.fault.VisitFault.TheVariants.{StampEnd as stamp_end};
 ghost use Rattle.agent_cells.specs.State.{fault_in};
 ghost use Rattle.agent_workers.specs.Joined.{states_of, EachIs, EachBecomes, HasBegun, IsSameCell, IsJoined};

@@ -4,8 +4,8 @@ ghost use Rattle.std.specs.Prelude.{◌≡◌, ◌≤◌, ◌<◌, false, true, 
 ghost use Rattle.std.specs.List.{list_all};
 ghost use Rattle.dcop_base.specs.Limits.{budget_limit, variable_limit};
 ghost use Rattle.protocol_steps.specs.View.{ended_of};
-ghost use Rattle.worker_runs.specs.CellRuns.{MakesARun};
-ghost use Rattle.worker_runs.specs.CellRounds.{total};
+ghost use Rattle.worker_laws.specs.CellRuns.{MakesARun};
+ghost use Rattle.worker_laws.specs.CellRounds.{total};
 ghost use Rattle.agent_cells.specs.declared.fault.VisitFault.TheVariants.{StampEnd as stamp_end};
 ghost use Rattle.agent_cells.specs.State.{state_of, begun_in, fault_in, IsCell};
 ghost use Rattle.agent_workers.specs.Joined.{states_of, EachIs, EachBecomes, HasBegun, IsSameCell, IsJoined};

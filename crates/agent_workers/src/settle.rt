@@ -2,8 +2,8 @@
 
 ghost use Rattle.std.specs.Prelude.{◌≡◌, ◌≢◌, ◌<◌, ◌≤◌, ℕ, true, false, length, Some, slice_get, slice_index_or};
 ghost use Rattle.dcop_base.specs.Limits.{variable_limit};
-ghost use Rattle.worker_runs.specs.Cells.{peers};
-ghost use Rattle.worker_runs.specs.NodeRounds.{home as home_of};
+ghost use Rattle.worker_laws.specs.Cells.{peers};
+ghost use Rattle.worker_laws.specs.OneNode.{home as home_of};
 ghost use Rattle.agent_cells.specs.State.{state_of, IsCell};
 ghost use Rattle.agent_workers.specs.Joined.{EachIs, IsJoined};
 ghost use Rattle.agent_workers.specs.Settled.{AreHomes, CanSettle, HasSettled, HasSettledPlace, HasSettledTo, HaveSettled};

@@ -2,7 +2,7 @@
 
 ghost use Rattle.std.specs.Prelude.{◌≡◌, ◌≢◌, ◌≤◌, ◌<◌, ℕ, length, false, IfSome, MatchOption, Some, slice_get, slice_index_or};
 ghost use Rattle.dcop_base.specs.Limits.{variable_limit};
-ghost use Rattle.worker_runs.specs.Cells.{peers};
+ghost use Rattle.worker_laws.specs.Cells.{peers};
 ghost use Rattle.agent_cells.specs.State.{state_of};
 ghost use Rattle.agent_workers.specs.Watched.{IsUnmarked, AreUnmarked};
 

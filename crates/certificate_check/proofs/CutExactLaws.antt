@@ -11,10 +11,10 @@ use Rattle.pseudotree.specs.Tree.{IsRoot}
 use Rattle.pseudotree.specs.Pseudotree.{IsPseudotree, touches}
 use Rattle.pseudotree.specs.Place.{sizes_of}
 use Rattle.dcop_optimum.specs.Certificate.{AreLowerTables}
-use Rattle.cut_laws.specs.Slice.{AreCutValues, slice_of}
-use Rattle.cut_laws.specs.Certificate.{IsRootCell, IsLeastRootCell}
-use Rattle.cut_laws.proofs.TreeLaws.{slices_keep_trees}
-use Rattle.cut_laws.proofs.CertificateLaws.{cut_certificates_show_optima}
+use Rattle.run_laws.specs.Slice.{AreCutValues, slice_of}
+use Rattle.run_laws.specs.Certificate.{IsRootCell, IsLeastRootCell}
+use Rattle.run_laws.proofs.TreeLaws.{slices_keep_trees}
+use Rattle.run_laws.proofs.CertificateLaws.{cut_certificates_show_optima}
 use Rattle.problem_text.specs.File.{TextFile}
 use Rattle.certificate_text.specs.declared.certificate.Turn.{Turn}
 use Rattle.certificate_text.specs.declared.certificate.Util.{Util}
@@ -25,12 +25,12 @@ use Rattle.certificate_text.specs.declared.verdict.Verdict.{Verdict}
 use Rattle.certificate_text.specs.declared.verdict.Verdict.TheVariants.{Yes, No}
 use Rattle.certificate_text.specs.Fits.{FitsCut}
 use Rattle.certificate_text.specs.Turns.{first_tables}
-use Rattle.problem_solved.proofs.SolvedLaws.{solved_problem, solved_sizes}
-use Rattle.problem_solved.specs.Goal.{problem_solved, IsAtMostWorse}
-use Rattle.problem_solved.specs.Holds.{HoldsCut}
-use Rattle.problem_solved.specs.Told.{told, variables, parents_told, scopes_told, cells_told}
-use Rattle.problem_solved.specs.Turns.{turn_at, turn_by, turn_scopes, turn_cells}
-use Rattle.problem_solved.specs.Verdict.{ShowsBest}
+use Rattle.minimised_problem.proofs.SolvedLaws.{solved_problem, solved_sizes}
+use Rattle.minimised_problem.specs.Goal.{problem_solved, IsAtMostWorse}
+use Rattle.minimised_problem.specs.Holds.{HoldsCut}
+use Rattle.minimised_problem.specs.Told.{told, variables, parents_told, scopes_told, cells_told}
+use Rattle.minimised_problem.specs.Turns.{turn_at, turn_by, turn_scopes, turn_cells}
+use Rattle.minimised_problem.specs.Verdict.{ShowsBest}
 use Rattle.certificate_check.specs.Cells.{root_told}
 use Rattle.certificate_check.specs.Cuts.{scopes_in_turn, cells_in_turn, first_in_turns, least_cell, least_root_cell, cut_deliveries, cut_difference}
 use Rattle.certificate_check.specs.Differences.{first_of, scope_difference, cells_difference, unless_same, status_difference, bound_difference, number_difference}

@@ -26,14 +26,14 @@ use Rattle.certificate_text.specs.declared.verdict.Differs.TheVariants.{Cost, Ro
 use Rattle.certificate_text.specs.declared.verdict.Verdict.{Verdict}
 use Rattle.certificate_text.specs.declared.verdict.Verdict.TheVariants.{Yes, No}
 use Rattle.certificate_text.specs.Fits.{FitsTables}
-use Rattle.problem_solved.proofs.SolvedLaws.{solved_problem, solved_sizes}
-use Rattle.problem_solved.specs.Goal.{solved, problem_solved, IsBestSum, IsAtMostWorse}
-use Rattle.problem_solved.specs.Told.{told, variables, parents_told, scopes_told, cells_told}
+use Rattle.minimised_problem.proofs.SolvedLaws.{solved_problem, solved_sizes}
+use Rattle.minimised_problem.specs.Goal.{solved, problem_solved, IsBestSum, IsAtMostWorse}
+use Rattle.minimised_problem.specs.Told.{told, variables, parents_told, scopes_told, cells_told}
 use Rattle.certificate_check.specs.Cells.{root_told, root_cell}
 use Rattle.certificate_check.specs.Differences.{first_of, scope_difference, cells_difference, unless_same, status_difference, dpop_deliveries, bound_difference, number_difference, difference_in}
-use Rattle.problem_solved.specs.Holds.{HoldsTables}
+use Rattle.minimised_problem.specs.Holds.{HoldsTables}
 use Rattle.certificate_check.specs.Verdicts.{IsTreeOf, IsTablesVerdict, IsTablesExact}
-use Rattle.problem_solved.specs.Verdict.{ShowsBest}
+use Rattle.minimised_problem.specs.Verdict.{ShowsBest}
 use Rattle.certificate_check.proofs.FirstLaws.{none_at, or_parts, or_none}
 use Rattle.certificate_check.proofs.FitLaws.{told_fits}
 use Rattle.certificate_check.proofs.RootLaws.{root_is, scope_same}

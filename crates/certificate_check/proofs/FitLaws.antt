@@ -10,7 +10,7 @@ use Rattle.pseudotree.specs.Pseudotree.{IsPseudotree}
 use Rattle.dcop_optimum.specs.Certificate.{is_on_path, tables_on_path}
 use Rattle.certificate_text.specs.declared.certificate.Util.{Util}
 use Rattle.certificate_text.specs.Fits.{FitsTables, FitsUtil}
-use Rattle.problem_solved.specs.Told.{told}
+use Rattle.minimised_problem.specs.Told.{told}
 use Rattle.certificate_check.specs.Cells.{children_told}
 use Rattle.certificate_check.specs.Odometer.{FitTogether, AreApart}
 use Rattle.certificate_check.specs.Differences.{table_difference}

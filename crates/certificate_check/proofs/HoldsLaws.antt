@@ -18,15 +18,15 @@ use Rattle.certificate_text.specs.declared.certificate.Util.{Util}
 use Rattle.certificate_text.specs.declared.verdict.Differs.{Differs}
 use Rattle.certificate_text.specs.declared.verdict.Differs.TheVariants.{Cell}
 use Rattle.certificate_text.specs.Fits.{FitsTables}
-use Rattle.problem_solved.specs.Told.{told, variables, sized, scopes_told, cells_told}
-use Rattle.problem_solved.specs.Cells.{values_of_cell}
+use Rattle.minimised_problem.specs.Told.{told, variables, sized, scopes_told, cells_told}
+use Rattle.minimised_problem.specs.Cells.{values_of_cell}
 use Rattle.certificate_check.specs.Cells.{values_at_cell, sum_below, children_told}
 use Rattle.certificate_check.specs.Differences.{first_of, scope_difference, value_difference, cell_difference, table_difference, cells_difference}
 use Rattle.certificate_check.proofs.FirstLaws.{none_at, none_each}
 use Rattle.certificate_check.proofs.PartLaws.{child_below}
 use Rattle.certificate_check.proofs.CellLaws.{sizes_at}
-use Rattle.problem_solved.proofs.CellLaws.{values_of_place, place_of_values}
-use Rattle.problem_solved.proofs.TellingLaws.{map_same, table_is}
+use Rattle.minimised_problem.proofs.CellLaws.{values_of_place, place_of_values}
+use Rattle.minimised_problem.proofs.TellingLaws.{map_same, table_is}
 use Rattle.certificate_check.proofs.FitLaws.{told_fits, told_var}
 use Rattle.certificate_check.proofs.RootLaws.{scope_same, same_scope}
 

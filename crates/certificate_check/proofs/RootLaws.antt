@@ -21,7 +21,7 @@ use Rattle.dcop_optimum.proofs.PlaceLaws.{zeros_within}
 use Rattle.certificate_text.specs.declared.certificate.Util.{Util}
 use Rattle.certificate_text.specs.declared.verdict.Differs.TheVariants.{Scope}
 use Rattle.certificate_text.specs.Fits.{FitsUtil}
-use Rattle.problem_solved.specs.Told.{told, variables}
+use Rattle.minimised_problem.specs.Told.{told, variables}
 use Rattle.certificate_check.specs.Odometer.{AreApart}
 use Rattle.certificate_check.specs.Differences.{first_of, scope_difference}
 use Rattle.certificate_check.proofs.FirstLaws.{none_at}

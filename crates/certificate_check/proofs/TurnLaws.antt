@@ -20,16 +20,16 @@ use Rattle.pseudotree.specs.Place.{sizes_of}
 use Rattle.pseudotree.specs.Pseudotree.{RootedTree, IsPseudotreeOf}
 use Rattle.protocol_steps.specs.Values.{choices}
 use Rattle.protocol_steps.proofs.ValueLaws.{length-choices, choice_at}
-use Rattle.cut_laws.specs.Slice.{AreCut, AreCutValues, slice_of}
-use Rattle.cut_laws.proofs.TreeLaws.{slices_keep_trees}
-use Rattle.cut_laws.proofs.TurnLaws.{stands_at, choice_is}
+use Rattle.run_laws.specs.Slice.{AreCut, AreCutValues, slice_of}
+use Rattle.run_laws.proofs.TreeLaws.{slices_keep_trees}
+use Rattle.run_laws.proofs.TurnLaws.{stands_at, choice_is}
 use Rattle.certificate_text.specs.declared.certificate.Turn.{Turn}
 use Rattle.certificate_text.specs.declared.certificate.Util.{Util}
 use Rattle.certificate_text.specs.declared.verdict.Differs.{Differs}
 use Rattle.certificate_text.specs.Fits.{FitsTables, FitsCut}
 use Rattle.certificate_text.specs.Turns.{first_tables}
-use Rattle.problem_solved.specs.Told.{variables, parents_told}
-use Rattle.problem_solved.specs.Turns.{turn_at, turn_by}
+use Rattle.minimised_problem.specs.Told.{variables, parents_told}
+use Rattle.minimised_problem.specs.Turns.{turn_at, turn_by}
 use Rattle.certificate_check.specs.Cells.{HaveOneEach}
 use Rattle.certificate_check.specs.Cuts.{in_turn, scopes_in_turn, cells_in_turn}
 use Rattle.certificate_check.specs.Differences.{first_of, scope_difference, cells_difference}

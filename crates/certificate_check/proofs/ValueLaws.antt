@@ -7,8 +7,8 @@ use Rattle.dcop_optimum.specs.Certificate.{value_by}
 use Rattle.dcop_optimum.proofs.PlaceLaws.{zeros_within}
 use Rattle.certificate_text.specs.declared.certificate.Util.{Util}
 use Rattle.certificate_text.specs.Fits.{FitsUtil}
-use Rattle.problem_solved.specs.Cells.{values_of_cell}
-use Rattle.problem_solved.proofs.CellLaws.{values_of_place}
+use Rattle.minimised_problem.specs.Cells.{values_of_cell}
+use Rattle.minimised_problem.proofs.CellLaws.{values_of_place}
 use Rattle.certificate_check.specs.Cells.{values_at_cell, sum_below}
 use Rattle.certificate_check.specs.Odometer.{place_of, IsAtCell, IsNextPlace}
 use Rattle.certificate_check.proofs.CellLaws.{sizes_at, scope_within}

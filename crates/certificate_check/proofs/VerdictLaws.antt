@@ -17,8 +17,8 @@ use Rattle.certificate_text.specs.declared.report.Report.{Report}
 use Rattle.certificate_text.specs.declared.verdict.Verdict.{Verdict}
 use Rattle.certificate_text.specs.declared.verdict.Verdict.TheVariants.{Yes, No}
 use Rattle.certificate_text.specs.Fits.{FitsTables}
-use Rattle.problem_solved.specs.Goal.{problem_solved}
-use Rattle.problem_solved.specs.Told.{told, parents_told}
+use Rattle.minimised_problem.specs.Goal.{problem_solved}
+use Rattle.minimised_problem.specs.Told.{told, parents_told}
 use Rattle.certificate_check.specs.Verdicts.{IsTreeVerdict, IsTablesVerdict, IsCutVerdict}
 use Rattle.certificate_check.specs.Differences.{IsTreeDifference}
 use Rattle.certificate_check.proofs.FitLaws.{told_fits}

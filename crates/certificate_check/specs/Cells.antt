@@ -7,8 +7,8 @@ use Rattle.dcop_base.specs.Values.{cell_with, cost_with, with_own}
 use Rattle.pseudotree.specs.Tree.{children_of}
 use Rattle.dcop_optimum.specs.Certificate.{value_by}
 use Rattle.certificate_text.specs.declared.certificate.Util.{Util}
-use Rattle.problem_solved.specs.Told.{told, sized, parents_told}
-use Rattle.problem_solved.specs.Cells.{values_of_cell}
+use Rattle.minimised_problem.specs.Told.{told, sized, parents_told}
+use Rattle.minimised_problem.specs.Cells.{values_of_cell}
 
 -- each variable below `count` has exactly one of these tables
 abbrev pub HaveOneEach : ℕ → List Util → Type 0

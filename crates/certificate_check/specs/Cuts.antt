@@ -5,16 +5,16 @@ use Rattle.std.specs.List.{fold, range_with_len}
 use Rattle.std.specs.Option.{option_or, option_map}
 use Rattle.dcop_base.specs.Limits.{amount_limit, count_limit}
 use Rattle.dcop_base.specs.Problem.{Dcop}
-use Rattle.cut_laws.specs.Slice.{slice_of}
+use Rattle.run_laws.specs.Slice.{slice_of}
 use Rattle.problem_text.specs.File.{TextFile}
 use Rattle.certificate_text.specs.declared.certificate.Turn.{Turn}
 use Rattle.certificate_text.specs.declared.report.Report.{Report}
 use Rattle.certificate_text.specs.declared.verdict.Differs.{Differs}
 use Rattle.certificate_text.specs.declared.verdict.Differs.TheVariants.{Scope, Cell, TurnScope, TurnCell}
 use Rattle.certificate_text.specs.Turns.{first_tables}
-use Rattle.problem_solved.specs.Goal.{problem_solved}
-use Rattle.problem_solved.specs.Told.{told, variables}
-use Rattle.problem_solved.specs.Turns.{turn_at}
+use Rattle.minimised_problem.specs.Goal.{problem_solved}
+use Rattle.minimised_problem.specs.Told.{told, variables}
+use Rattle.minimised_problem.specs.Turns.{turn_at}
 use Rattle.certificate_check.specs.Cells.{root_told}
 use Rattle.certificate_check.specs.Differences.{first_of, scope_difference, cells_difference, dpop_deliveries, number_difference}
 

@@ -17,8 +17,8 @@ use Rattle.certificate_text.specs.declared.report.Ending.{Ending}
 use Rattle.certificate_text.specs.declared.report.Ending.TheVariants.{Solved, Spent}
 use Rattle.certificate_text.specs.declared.verdict.Differs.{Differs}
 use Rattle.certificate_text.specs.declared.verdict.Differs.TheVariants.{TreeRoots, TreeLoop, TreePair, Scope, Cell, Cost, Root, Lower, Upper, Error, Deliveries, Status}
-use Rattle.problem_solved.specs.Goal.{problem_solved}
-use Rattle.problem_solved.specs.Told.{told, variables}
+use Rattle.minimised_problem.specs.Goal.{problem_solved}
+use Rattle.minimised_problem.specs.Told.{told, variables}
 use Rattle.certificate_check.specs.Cells.{sum_below, values_at_cell, children_told, root_cell}
 
 -- the parents do not form a pseudotree of the problem, and this is the first reason

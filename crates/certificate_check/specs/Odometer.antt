@@ -6,7 +6,7 @@ use Rattle.dcop_base.specs.Problem.{Dcop}
 use Rattle.dcop_base.specs.Whole.{IsTableOf}
 use Rattle.certificate_text.specs.declared.certificate.Util.{Util}
 use Rattle.certificate_text.specs.Fits.{FitsUtil}
-use Rattle.problem_solved.specs.Told.{told}
+use Rattle.minimised_problem.specs.Told.{told}
 
 -- the number of the cell that an assignment selects in a table of this scope
 abbrev pub place_of : List ℕ → List ℕ → List ℕ → ℕ

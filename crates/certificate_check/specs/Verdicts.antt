@@ -12,14 +12,14 @@ use Rattle.certificate_text.specs.declared.report.Report.{Report}
 use Rattle.certificate_text.specs.declared.verdict.Differs.{Differs}
 use Rattle.certificate_text.specs.declared.verdict.Verdict.{Verdict}
 use Rattle.certificate_text.specs.declared.verdict.Verdict.TheVariants.{Yes, No}
-use Rattle.problem_solved.specs.Goal.{problem_solved}
-use Rattle.problem_solved.specs.Gap.{gap_of}
-use Rattle.problem_solved.specs.Told.{parents_told}
+use Rattle.minimised_problem.specs.Goal.{problem_solved}
+use Rattle.minimised_problem.specs.Gap.{gap_of}
+use Rattle.minimised_problem.specs.Told.{parents_told}
 use Rattle.certificate_text.specs.Turns.{first_tables}
 use Rattle.certificate_check.specs.Cuts.{cut_difference}
 use Rattle.certificate_check.specs.Differences.{IsTreeDifference, difference_in}
-use Rattle.problem_solved.specs.Holds.{HoldsTables, HoldsCut}
-use Rattle.log_holds.specs.Verdicts.{IsLogVerdict, IsLogExact}
+use Rattle.minimised_problem.specs.Holds.{HoldsTables, HoldsCut}
+use Rattle.minimised_problem.specs.LogVerdicts.{IsLogVerdict, IsLogExact}
 
 -- the parents are those of this pseudotree of the problem
 pub record IsTreeOf (p : Dcop) (parents : List (Option ℕ)) (paths : List (List ℕ)) : Type 0 where

@@ -7,8 +7,8 @@ ghost use Rattle.dcop_base.specs.Problem.{IsAssignment};
 ghost use Rattle.pseudotree.specs.Pseudotree.{IsPseudotreeOf};
 ghost use Rattle.pseudotree.specs.Fault.{parents_of};
 ghost use Rattle.certificate_text.specs.Fits.{FitsTables};
-ghost use Rattle.problem_solved.specs.Goal.{solved};
-ghost use Rattle.problem_solved.specs.Told.{parents_told};
+ghost use Rattle.minimised_problem.specs.Goal.{solved};
+ghost use Rattle.minimised_problem.specs.Told.{parents_told};
 ghost use Rattle.certificate_check.specs.Cells.{root_cell};
 ghost use Rattle.certificate_check.specs.Differences.{difference_in};
 

@@ -3,7 +3,7 @@
 ghost use Rattle.std.specs.Prelude.{◌≡◌, ◌<◌, length, map, IfOk};
 ghost use Rattle.pseudotree.specs.Pseudotree.{IsPseudotreeOf};
 ghost use Rattle.certificate_text.specs.Fits.{FitsTables};
-ghost use Rattle.problem_solved.specs.Told.{told, variables};
+ghost use Rattle.minimised_problem.specs.Told.{told, variables};
 ghost use Rattle.certificate_check.specs.Odometer.{IsAtCell, FitTogether, AreApart};
 ghost use Rattle.certificate_check.specs.Differences.{first_of, cell_difference, table_difference};
 ghost use Rattle.certificate_check.specs.Differences.{cells_difference};

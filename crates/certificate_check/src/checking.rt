@@ -3,10 +3,10 @@
 ghost use Rattle.std.specs.Prelude.{◌≡◌, IfOk, IsSome, Some};
 ghost use Rattle.dcop_base.specs.Problem.{IsAssignment};
 ghost use Rattle.certificate_text.specs.Fits.{Fits, FitsTables};
-ghost use Rattle.problem_solved.specs.Goal.{solved};
+ghost use Rattle.minimised_problem.specs.Goal.{solved};
 ghost use Rattle.certificate_check.specs.Verdicts.{IsVerdict, IsTablesVerdict, IsExact};
 ghost use Rattle.certificate_check.specs.Verdicts.{IsTablesExact};
-ghost use Rattle.problem_solved.specs.Verdict.{ShowsBest};
+ghost use Rattle.minimised_problem.specs.Verdict.{ShowsBest};
 
 use crate::behind::difference_in;
 use crate::cutting::check_cut;
@@ -15,7 +15,7 @@ use crate::tree::tree_verdict;
 use certificate_text::{Certificate, Report, Util, Verdict};
 use dcop_base::{NoMemory, Problem, problem_is_whole};
 use log_check::check_log;
-use problem_solved::{ProblemSolved, verdict_of};
+use minimised_problem::{ProblemSolved, verdict_of};
 use problem_text::ProblemFile;
 use pseudotree::check_tree;
 use std::alloc::Global;

@@ -7,8 +7,8 @@
 //! tree of the parents, the scopes, the cells, and then the numbers. A certificate of a cut is
 //! checked turn by turn, each on its slice of the problem.
 //!
-//! It builds on `problem_solved` for when a report holds, on `log_check` for certificates of logs,
-//! and on `problem_cut` and `cut_laws` for cuts.
+//! It builds on `minimised_problem` for when a report holds, on `log_check` for certificates of
+//! logs, and on `problem_cut` and `run_laws` for cuts.
 #![tactic(auto)]
 
 mod behind;

@@ -3,7 +3,7 @@
 ghost use Rattle.std.specs.Prelude.{◌≡◌, ◌≤◌, length};
 ghost use Rattle.dcop_base.specs.Limits.{variable_limit};
 ghost use Rattle.dcop_base.specs.Problem.{IsAssignment};
-ghost use Rattle.problem_solved.specs.Goal.{solved};
+ghost use Rattle.minimised_problem.specs.Goal.{solved};
 ghost use Rattle.certificate_check.specs.Differences.{number_difference, bound_difference};
 ghost use Rattle.certificate_check.specs.Differences.{status_difference, dpop_deliveries};
 

@@ -4,7 +4,7 @@ ghost use Rattle.std.specs.Prelude.{◌≡◌, ◌<◌, length};
 ghost use Rattle.std.specs.Str.{bytes_eq};
 ghost use Rattle.pseudotree.specs.Pseudotree.{IsPseudotreeOf};
 ghost use Rattle.certificate_text.specs.Fits.{FitsTables};
-ghost use Rattle.problem_solved.specs.Told.{variables};
+ghost use Rattle.minimised_problem.specs.Told.{variables};
 ghost use Rattle.certificate_check.specs.Differences.{first_of, scope_difference};
 
 use crate::told::{util_of, variable_count};

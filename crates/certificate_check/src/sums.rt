@@ -6,7 +6,7 @@ ghost use Rattle.dcop_base.specs.Table.{AreWithin, product, values_at};
 ghost use Rattle.dcop_base.specs.Whole.{IsTableOf};
 ghost use Rattle.dcop_base.specs.Values.{cell_with, cost_with};
 ghost use Rattle.certificate_text.specs.Fits.{FitsUtil};
-ghost use Rattle.problem_solved.specs.Told.{sized};
+ghost use Rattle.minimised_problem.specs.Told.{sized};
 ghost use Rattle.certificate_check.specs.Cells.{sum_below};
 ghost use Rattle.certificate_check.specs.Odometer.{place_of};
 

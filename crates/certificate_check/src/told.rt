@@ -3,7 +3,7 @@
 ghost use Rattle.std.specs.Prelude.{◌≡◌, ◌==◌, ◌≤◌, length, IfOk};
 ghost use Rattle.std.specs.List.{count_by};
 ghost use Rattle.dcop_base.specs.Limits.{variable_limit};
-ghost use Rattle.problem_solved.specs.Told.{told, parents_told};
+ghost use Rattle.minimised_problem.specs.Told.{told, parents_told};
 ghost use Rattle.certificate_check.specs.Cells.{HaveOneEach};
 
 use certificate_text::Util;

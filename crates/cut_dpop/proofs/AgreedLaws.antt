@@ -15,11 +15,11 @@ use Rattle.protocol_steps.specs.TreeAgents.{dpop_agents}
 use Rattle.delivery_core.specs.declared.start.Start.{Start}
 use Rattle.delivery_core.specs.declared.start.Start.TheVariants.{Token, Dpop, Adopt}
 use Rattle.delivery_core.specs.Agents.{IsStartFor, agents_of}
-use Rattle.dpop_runs.specs.Laws.{DpopRuns}
-use Rattle.util_tables.proofs.RunLaws.{have_made}
-use Rattle.tree_search.proofs.EndLaws.{run-ended}
-use Rattle.cut_laws.specs.Slice.{slice_of}
-use Rattle.cut_laws.specs.Trees.{SlicesKeepTrees}
+use Rattle.run_laws.specs.DpopLaws.{DpopRuns}
+use Rattle.minimised_problem.proofs.RunLaws.{have_made}
+use Rattle.minimised_problem.proofs.SearchEndLaws.{run-ended}
+use Rattle.run_laws.specs.Slice.{slice_of}
+use Rattle.run_laws.specs.Trees.{SlicesKeepTrees}
 use Rattle.cut_dpop.specs.Start.{paths_in, IsDpopStart, turn_deliveries, HaveFirst}
 
 -- a start of DPOP agents is one on which agents run

@@ -13,10 +13,10 @@ use Rattle.dcop_optimum.proofs.OptimumLaws.{optimum_same}
 use Rattle.dcop_optimum.proofs.PlaceLaws.{place_before}
 use Rattle.pseudotree.specs.Place.{sizes_of}
 use Rattle.protocol_steps.proofs.ValueLaws.{choice_at}
-use Rattle.cut_laws.specs.Slice.{AreCut, AreCutValues, slice_of}
-use Rattle.cut_laws.specs.Turns.{turn_count}
-use Rattle.cut_laws.specs.Kept.{IsCutAnswer}
-use Rattle.cut_laws.proofs.TurnLaws.{stands_at, choice_is}
+use Rattle.run_laws.specs.Slice.{AreCut, AreCutValues, slice_of}
+use Rattle.run_laws.specs.Turns.{turn_count}
+use Rattle.run_laws.specs.Kept.{IsCutAnswer}
+use Rattle.run_laws.proofs.TurnLaws.{stands_at, choice_is}
 use Rattle.cut_dpop.specs.declared.turn.Played.{Played}
 use Rattle.cut_dpop.specs.Played.{turn_of, IsPlayed, IsBestOf}
 

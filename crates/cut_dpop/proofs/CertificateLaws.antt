@@ -17,22 +17,22 @@ use Rattle.pseudotree.specs.Fault.{parents_of}
 use Rattle.pseudotree.specs.Place.{sizes_of}
 use Rattle.protocol_steps.specs.Values.{choices}
 use Rattle.protocol_steps.proofs.ValueLaws.{length-choices, choice_at}
-use Rattle.cut_laws.specs.Slice.{AreCut, AreCutValues, slice_of}
-use Rattle.cut_laws.specs.Turns.{turn_count}
-use Rattle.cut_laws.specs.CutSet.{CutSetsAreOne}
-use Rattle.cut_laws.specs.Kept.{CutAnswersAreOptimal}
-use Rattle.cut_laws.specs.Certificate.{IsCutCertificate, AreTurnCertificates}
-use Rattle.cut_laws.proofs.SliceLaws.{slices_are_problems}
-use Rattle.cut_laws.proofs.TreeLaws.{slices_keep_trees}
-use Rattle.cut_laws.proofs.CertificateLaws.{turns_make_certificates}
+use Rattle.run_laws.specs.Slice.{AreCut, AreCutValues, slice_of}
+use Rattle.run_laws.specs.Turns.{turn_count}
+use Rattle.run_laws.specs.CutSet.{CutSetsAreOne}
+use Rattle.run_laws.specs.Kept.{CutAnswersAreOptimal}
+use Rattle.run_laws.specs.Certificate.{IsCutCertificate, AreTurnCertificates}
+use Rattle.run_laws.proofs.SliceLaws.{slices_are_problems}
+use Rattle.run_laws.proofs.TreeLaws.{slices_keep_trees}
+use Rattle.run_laws.proofs.CertificateLaws.{turns_make_certificates}
 use Rattle.certificate_text.specs.declared.certificate.Turn.{Turn}
 use Rattle.certificate_text.specs.declared.certificate.Util.{Util}
 use Rattle.certificate_text.specs.Fits.{KeepParents, FitsCut}
 use Rattle.certificate_text.specs.Turns.{first_tables}
-use Rattle.problem_solved.specs.Told.{told, parents_told}
-use Rattle.problem_solved.specs.Turns.{turn_at, turn_by, turn_scopes, turn_cells}
-use Rattle.util_tables.specs.Utils.{IsUtilOf, AreUtilsOf}
-use Rattle.util_tables.proofs.UtilLaws.{tables_fit, parents_are, tables_show_on}
+use Rattle.minimised_problem.specs.Told.{told, parents_told}
+use Rattle.minimised_problem.specs.Turns.{turn_at, turn_by, turn_scopes, turn_cells}
+use Rattle.minimised_problem.specs.Utils.{IsUtilOf, AreUtilsOf}
+use Rattle.minimised_problem.proofs.UtilLaws.{tables_fit, parents_are, tables_show_on}
 use Rattle.cut_dpop.specs.Played.{turn_of}
 use Rattle.cut_dpop.specs.Kept.{IsTurn, AreTurns}
 use Rattle.cut_dpop.specs.Certificate.{KeptTablesCertify}

@@ -12,9 +12,9 @@ use Rattle.dcop_base.specs.Whole.{IsProblem}
 use Rattle.pseudotree.specs.Pseudotree.{RootedTree, IsPseudotreeOf, IsLinked}
 use Rattle.pseudotree.specs.Width.{told}
 use Rattle.delivery_core.specs.Agents.{IsTreeFor}
-use Rattle.cut_laws.specs.Slice.{AreCut}
-use Rattle.cut_laws.specs.Turns.{turn_count}
-use Rattle.cut_laws.specs.CutSet.{IsCutSet, CutSetsAreOne, CutSetsMakeNarrow}
+use Rattle.run_laws.specs.Slice.{AreCut}
+use Rattle.run_laws.specs.Turns.{turn_count}
+use Rattle.run_laws.specs.CutSet.{IsCutSet, CutSetsAreOne, CutSetsMakeNarrow}
 use Rattle.cut_dpop.specs.declared.fault.CutFault.{CutFault}
 use Rattle.cut_dpop.specs.declared.fault.CutFault.TheVariants.{TooMany, Total, NoMemory}
 use Rattle.cut_dpop.specs.declared.turn.Played.{Played}

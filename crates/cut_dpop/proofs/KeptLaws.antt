@@ -5,8 +5,8 @@ use Rattle.dcop_base.specs.Table.{CostTable}
 use Rattle.dcop_base.specs.Problem.{Dcop}
 use Rattle.pseudotree.specs.Pseudotree.{RootedTree, IsPseudotreeOf}
 use Rattle.certificate_text.specs.declared.certificate.Turn.{Turn}
-use Rattle.cut_laws.specs.Slice.{slice_of}
-use Rattle.util_tables.specs.Utils.{AreUtilsOf, HaveMade}
+use Rattle.run_laws.specs.Slice.{slice_of}
+use Rattle.minimised_problem.specs.Utils.{AreUtilsOf, HaveMade}
 use Rattle.cut_dpop.specs.Kept.{IsTurn, AreTurns, AreKept, KeepsTurn, IsKeptNext}
 use Rattle.cut_dpop.specs.Played.{turn_of}
 

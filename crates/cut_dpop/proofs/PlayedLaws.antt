@@ -10,8 +10,8 @@ use Rattle.dcop_optimum.specs.TreeOptimum.{IsFirstOptimumOf}
 use Rattle.pseudotree.specs.Place.{sizes_of}
 use Rattle.protocol_steps.specs.declared.outcome.Outcome.{Outcome}
 use Rattle.protocol_steps.specs.Values.{choices}
-use Rattle.cut_laws.specs.Slice.{AreCut, AreCutValues, slice_of}
-use Rattle.cut_laws.specs.Turns.{turn_count}
+use Rattle.run_laws.specs.Slice.{AreCut, AreCutValues, slice_of}
+use Rattle.run_laws.specs.Turns.{turn_count}
 use Rattle.cut_dpop.specs.Start.{HaveFirst}
 use Rattle.cut_dpop.specs.Played.{turn_of, IsPlayed}
 use Rattle.cut_dpop.proofs.BestLaws.{turn-within}

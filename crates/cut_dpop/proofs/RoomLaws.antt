@@ -6,8 +6,8 @@ use Rattle.dcop_base.specs.Problem.{Dcop}
 use Rattle.dcop_base.specs.Limits.{sent_limit, turn_limit}
 use Rattle.pseudotree.specs.Width.{told, sent_total}
 use Rattle.pseudotree.proofs.WidthLaws.{told_times}
-use Rattle.cut_laws.specs.Turns.{turn_count}
-use Rattle.cut_laws.specs.CutSet.{counted}
+use Rattle.run_laws.specs.Turns.{turn_count}
+use Rattle.run_laws.specs.CutSet.{counted}
 use Rattle.cut_dpop.specs.declared.fault.CutFault.TheVariants.{TooMany, Total}
 use Rattle.cut_dpop.specs.Refusal.{cells_sent, refusal, AreAllowed}
 

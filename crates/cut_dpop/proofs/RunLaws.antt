@@ -10,10 +10,10 @@ use Rattle.protocol_steps.specs.Network.{Network}
 use Rattle.protocol_steps.specs.Effect.{deliveries}
 use Rattle.protocol_steps.specs.RunEnds.{IsRunEnd}
 use Rattle.protocol_steps.specs.Outcomes.{HaveRun}
-use Rattle.worker_runs.specs.Cells.{CellState}
-use Rattle.worker_runs.specs.CellRounds.{total}
-use Rattle.worker_runs.specs.CellRuns.{MakesARun, IsCellOutcome}
-use Rattle.worker_runs.specs.Laws.{CellsTellOutcomes}
+use Rattle.worker_laws.specs.Cells.{CellState}
+use Rattle.worker_laws.specs.CellRounds.{total}
+use Rattle.worker_laws.specs.CellRuns.{MakesARun, IsCellOutcome}
+use Rattle.worker_laws.specs.WorkerLaws.{CellsTellOutcomes}
 use Rattle.agent_cells.specs.declared.cell.Cell.{Cell}
 use Rattle.agent_workers.specs.Joined.{states_of}
 use Rattle.agent_workers.specs.Run.{views_of}

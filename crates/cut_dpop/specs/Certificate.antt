@@ -4,12 +4,12 @@ use Rattle.std.specs.List.{All}
 use Rattle.dcop_base.specs.Problem.{Dcop}
 use Rattle.dcop_base.specs.Whole.{IsProblem}
 use Rattle.pseudotree.specs.Pseudotree.{IsPseudotree}
-use Rattle.cut_laws.specs.Turns.{turn_count}
-use Rattle.cut_laws.specs.Certificate.{IsCutCertificate}
+use Rattle.run_laws.specs.Turns.{turn_count}
+use Rattle.run_laws.specs.Certificate.{IsCutCertificate}
 use Rattle.certificate_text.specs.Fits.{FitsCut}
 use Rattle.certificate_text.specs.Turns.{first_tables}
-use Rattle.problem_solved.specs.Told.{parents_told}
-use Rattle.problem_solved.specs.Turns.{turn_scopes, turn_cells}
+use Rattle.minimised_problem.specs.Told.{parents_told}
+use Rattle.minimised_problem.specs.Turns.{turn_scopes, turn_cells}
 use Rattle.cut_dpop.specs.End.{IsCutEnd}
 use Rattle.cut_dpop.specs.declared.run.CutEnd.{CutEnd}
 

@@ -1,9 +1,9 @@
 -- How a cut ends.
 use Rattle.std.specs.Prelude.{◌≡◌, ℕ, ◌*◌, Bool, List, None}
 use Rattle.dcop_base.specs.Problem.{Dcop}
-use Rattle.cut_laws.specs.Turns.{turn_count}
-use Rattle.cut_laws.specs.CutSet.{IsCutSet}
-use Rattle.cut_laws.specs.Kept.{IsCutAnswer}
+use Rattle.run_laws.specs.Turns.{turn_count}
+use Rattle.run_laws.specs.CutSet.{IsCutSet}
+use Rattle.run_laws.specs.Kept.{IsCutAnswer}
 use Rattle.cut_dpop.specs.Start.{turn_deliveries}
 use Rattle.cut_dpop.specs.Kept.{AreKept}
 use Rattle.cut_dpop.specs.Refusal.{refusal, IsRefusal}

@@ -3,8 +3,8 @@ use Rattle.std.specs.Prelude.{◌≡◌, ℕ, Bool, true, false, List, [], ◌�
 use Rattle.std.specs.List.{AllZip, range_with_len}
 use Rattle.dcop_base.specs.Problem.{Dcop}
 use Rattle.certificate_text.specs.declared.certificate.Turn.{Turn}
-use Rattle.cut_laws.specs.Slice.{slice_of}
-use Rattle.util_tables.specs.Utils.{AreUtilsOf}
+use Rattle.run_laws.specs.Slice.{slice_of}
+use Rattle.minimised_problem.specs.Utils.{AreUtilsOf}
 use Rattle.cut_dpop.specs.Played.{turn_of}
 
 -- the turn with this number: its values, and the tables of all variables of its slice, in preorder

@@ -4,8 +4,8 @@ use Rattle.dcop_base.specs.Problem.{Dcop, cost}
 use Rattle.cost_table.specs.Slices.{put_in}
 use Rattle.dcop_optimum.specs.Optimum.{IsOptimum}
 use Rattle.dcop_optimum.specs.TreeOptimum.{IsFirstOptimumOf}
-use Rattle.cut_laws.specs.Slice.{slice_of}
-use Rattle.cut_laws.specs.Turns.{turns_of}
+use Rattle.run_laws.specs.Slice.{slice_of}
+use Rattle.run_laws.specs.Turns.{turns_of}
 use Rattle.cut_dpop.specs.Start.{turn_deliveries}
 use Rattle.cut_dpop.specs.declared.turn.Played.{Played}
 

@@ -3,8 +3,8 @@ use Rattle.std.specs.Prelude.{◌≡◌, ℕ, ◌*◌, Bool, List, Option, Some,
 use Rattle.dcop_base.specs.Problem.{Dcop}
 use Rattle.dcop_base.specs.Limits.{sent_limit, turn_limit}
 use Rattle.pseudotree.specs.Width.{told, sent_total}
-use Rattle.cut_laws.specs.Turns.{turn_count}
-use Rattle.cut_laws.specs.CutSet.{counted}
+use Rattle.run_laws.specs.Turns.{turn_count}
+use Rattle.run_laws.specs.CutSet.{counted}
 use Rattle.cut_dpop.specs.declared.fault.CutFault.{CutFault}
 use Rattle.cut_dpop.specs.declared.fault.CutFault.TheVariants.{TooMany, Total, NoMemory}
 

@@ -7,8 +7,8 @@ use Rattle.protocol_steps.specs.declared.outcome.Outcome.{Outcome}
 use Rattle.delivery_core.specs.declared.start.Start.{Start}
 use Rattle.delivery_core.specs.declared.start.Start.TheVariants.{Token, Dpop, Adopt}
 use Rattle.delivery_core.specs.Agents.{IsTreeFor}
-use Rattle.cut_laws.specs.Slice.{slice_of}
-use Rattle.util_tables.specs.Utils.{HaveMade}
+use Rattle.run_laws.specs.Slice.{slice_of}
+use Rattle.minimised_problem.specs.Utils.{HaveMade}
 
 -- the paths of the tree on which agents start; none for token agents
 abbrev pub paths_in : Start → List (List ℕ)

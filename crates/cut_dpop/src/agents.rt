@@ -4,13 +4,12 @@ ghost use Rattle.std.specs.Prelude.{◌≡◌, IfOk};
 ghost use Rattle.agent_links.specs.Ready.{IsNewCell};
 ghost use Rattle.delivery_core.specs.Agents.{IsStartFor, agents_of};
 ghost use Rattle.protocol_steps.specs.Outcomes.{HaveRun};
-ghost use Rattle.agent_seats.specs.Kinds.{view_of};
+ghost use Rattle.agent_links.specs.Kinds.{view_of};
 ghost use Rattle.cut_dpop.specs.Start.{turn_deliveries};
 
 use crate::crew::Crew;
 use agent_cells::Cell;
-use agent_links::{make_each, outcome_of};
-use agent_seats::{Agent, Seat, seats_of};
+use agent_links::{Agent, Seat, make_each, outcome_of, seats_of};
 use agent_workers::run;
 use dcop_base::{NoMemory, Problem, problem_is_whole};
 use dcop_edge::Gate;
@@ -19,7 +18,7 @@ use delivery_turns::play_out;
 use protocol_steps::Outcome;
 use std::alloc::Global;
 use std::thread::Threads;
-use worker_runs::cells_tell_outcomes;
+use worker_laws::cells_tell_outcomes;
 
 /// Runs the agents of a problem from this start, in rounds, until all have ended or as many
 /// messages are delivered as DPOP takes. Workers run them in cells; a single worker runs them on

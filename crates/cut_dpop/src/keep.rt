@@ -3,17 +3,17 @@
 ghost use Rattle.std.specs.Prelude.{◌≡◌, IfOk, OnOk};
 ghost use Rattle.dcop_base.specs.Problem.{Dcop};
 ghost use Rattle.pseudotree.specs.Pseudotree.{IsPseudotreeOf};
-ghost use Rattle.util_tables.specs.Utils.{AreUtilsOf, HaveMade};
+ghost use Rattle.minimised_problem.specs.Utils.{AreUtilsOf, HaveMade};
 ghost use Rattle.cut_dpop.specs.Start.{paths_in, IsDpopStart};
 ghost use Rattle.cut_dpop.specs.Kept.{KeepsTurn};
 
 use certificate_text::Turn;
 use dcop_base::{NoMemory, Table, ValList};
 use delivery_core::Start;
+use minimised_problem::utils_of;
 use protocol_steps::OptionList;
 use pseudotree::Tree;
 use std::alloc::Global;
-use util_tables::utils_of;
 
 /// Keeps the tables of a turn with these values after those of earlier turns, if `keep` is true.
 /// The agents that made them began with this start.

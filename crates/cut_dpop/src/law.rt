@@ -2,7 +2,7 @@
 
 ghost use Rattle.cut_dpop.specs.Certificate.{KeptTablesCertify};
 
-use cut_laws::{cut_answers_are_optimal, cut_sets_are_one};
+use run_laws::{cut_answers_are_optimal, cut_sets_are_one};
 
 /// The tables that are kept of all turns of a cut form a certificate: they show that the values at
 /// its end are optimal.

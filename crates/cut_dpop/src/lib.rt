@@ -6,8 +6,8 @@
 //! of all turns are kept on request. The law [`kept_tables_certify`] says that they form a
 //! certificate.
 //!
-//! It builds on `problem_cut` and `cut_laws` for cuts, on `agent_seats` and `agent_workers` or
-//! `delivery_turns` to run the agents, and on `util_tables` for the tables.
+//! It builds on `problem_cut` and `run_laws` for cuts, on `agent_links` and `agent_workers` or
+//! `delivery_turns` to run the agents, and on `minimised_problem` for the tables.
 #![tactic(auto)]
 
 mod agents;

@@ -4,7 +4,7 @@ ghost use Rattle.std.specs.Prelude.{◌≡◌, ◌*◌, if◌then◌else◌, IfO
 ghost use Rattle.pseudotree.specs.Place.{sizes_of};
 ghost use Rattle.pseudotree.specs.Pseudotree.{IsPseudotreeOf};
 ghost use Rattle.pseudotree.specs.Width.{told};
-ghost use Rattle.cut_laws.specs.Slice.{AreCut};
+ghost use Rattle.run_laws.specs.Slice.{AreCut};
 ghost use Rattle.cut_dpop.specs.Refusal.{AreAllowed, IsRefusal};
 
 use crate::fault::CutFault;

@@ -12,12 +12,12 @@ use crate::room::turns_of;
 use crate::tree::copy_of;
 use crate::turn::play_turns;
 use certificate_text::CutList;
-use cut_laws::{cut_sets_are_one, cut_sets_make_narrow};
 use dcop_base::{Problem, ValList, VarList, problem_is_whole, sizes_of};
 use dcop_edge::Gate;
 use delivery_core::Start;
 use problem_cut::cut_set;
 use pseudotree::Tree;
+use run_laws::{cut_sets_are_one, cut_sets_make_narrow};
 use std::alloc::Global;
 use std::thread::Threads;
 

@@ -2,7 +2,8 @@
 //! output, in an order that makes its depth-first tree narrower, or as it is.
 //!
 //! [`order`] does all of its work. It ends with the code of the status. If the system refuses to
-//! give it its arguments, it prints nothing and ends with code 12.
+//! give it its arguments, it prints nothing and ends with code 12. It is a crate of its own, since
+//! only a program makes the sources and sinks of the operating system.
 #![tactic(auto)]
 
 use dcop_edge::{StdSink, StdSource};

@@ -2,7 +2,8 @@
 //! with the best sum, and writes what it found, with bounds, to standard output.
 //!
 //! [`search`] does all the work. The program ends with the code of the status. If the system
-//! refuses it its arguments, it ends with 12 and prints nothing.
+//! refuses it its arguments, it ends with 12 and prints nothing. It is a crate of its own, since
+//! only a program makes the sources and sinks of the operating system.
 #![tactic(auto)]
 
 use dcop_edge::{StdSink, StdSource};

@@ -3,7 +3,8 @@
 //! it reached and what it sent.
 //!
 //! [`trace`] does all of its work. It ends with the code of the status. If the system refuses to
-//! give it its arguments, it prints nothing and ends with code 12.
+//! give it its arguments, it prints nothing and ends with code 12. It is a crate of its own, since
+//! only a program makes the sources and sinks of the operating system.
 #![tactic(auto)]
 
 use dcop_edge::{StdSink, StdSource};

@@ -13,7 +13,7 @@ ghost use Rattle.dpop_agent.specs.Sound.{IsKeeper};
 use crate::ancestors::are_above;
 use adopt_context::AgentContext;
 use dcop_base::{NoMemory, Private, Table, Val, VarId};
-use own_costs::add_table;
+use local_costs::add_table;
 use pseudotree::Place;
 use std::alloc::Global;
 use util_project::lowest_of;

@@ -20,9 +20,9 @@ use Rattle.dcop_optimum.proofs.TurnLaws.{turned_problem}
 use Rattle.problem_text.specs.File.{TextFile, IsFile, is_max, has_labels}
 use Rattle.problem_text.specs.declared.file.Goal.{Goal}
 use Rattle.problem_text.specs.declared.file.Goal.TheVariants.{Min, Max}
-use Rattle.problem_solved.specs.Goal.{solved}
-use Rattle.dpop_made.specs.Edits.{no_table, table_at, recelled, with_cells}
-use Rattle.dpop_made.proofs.EditLaws.{scopes_stay}
+use Rattle.minimised_problem.specs.Goal.{solved}
+use Rattle.edit_session.specs.Edits.{no_table, table_at, recelled, with_cells}
+use Rattle.edit_session.proofs.EditLaws.{scopes_stay}
 use Rattle.edit_session.specs.Faults.{cells_in, cells_set, cell_fault, cells_fault, IsReplacement}
 use Rattle.edit_session.specs.declared.fault.SetFault.{SetFault}
 use Rattle.edit_session.specs.declared.fault.SetFault.TheVariants.{NoTable, NoCell, CostTooLarge}

@@ -4,3 +4,7 @@ pub mod StateLaws
 pub mod MarkLaws
 pub mod LoopLaws
 pub mod PickLaws
+pub mod GraphLaws
+pub mod EditLaws
+pub mod HeldLaws
+pub mod KeptLaws

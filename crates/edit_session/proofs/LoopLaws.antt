@@ -24,13 +24,13 @@ use Rattle.dcop_optimum.proofs.LineLaws.{within_self}
 use Rattle.dcop_optimum.proofs.JoinLaws.{within_from, value_below, size_some, separator_above, within_in_problem}
 use Rattle.pseudotree.proofs.CheckLaws.{within_tree}
 use Rattle.dcop_optimum.proofs.PreorderLaws.{has_preorder, preorder_below}
-use Rattle.dpop_runs.proofs.ListLaws.{IsPlaced, placed}
+use Rattle.run_laws.proofs.ListLaws.{IsPlaced, placed}
 use Rattle.dpop_agent.specs.declared.made.Made.{Made}
-use Rattle.dpop_made.specs.Held.{agent_with, AreHeldFrom, AreAllHeld}
-use Rattle.dpop_made.specs.Laws.{AreChildrenHeld, AreLowestPicks, KeepsHeld, PicksReadSeparators}
+use Rattle.edit_session.specs.Held.{agent_with, AreHeldFrom, AreAllHeld}
+use Rattle.edit_session.specs.MadeLaws.{AreChildrenHeld, AreLowestPicks, KeepsHeld, PicksReadSeparators}
 use Rattle.pseudotree.specs.DepthFirst.{dfs}
 use Rattle.problem_text.specs.File.{TextFile}
-use Rattle.problem_solved.specs.Goal.{problem_solved}
+use Rattle.minimised_problem.specs.Goal.{problem_solved}
 use Rattle.edit_session.specs.State.{is_touched, touched_cells}
 use Rattle.edit_session.specs.Loops.{StayHeld, AreOthersHeld, cells_among}
 use Rattle.edit_session.proofs.OrderLaws.{children_behind, none_above_behind, sum_preorder}

@@ -7,7 +7,7 @@ use Rattle.dcop_base.specs.Table.{has}
 use Rattle.pseudotree.specs.Tree.{path_of, is_above}
 use Rattle.pseudotree.specs.Owner.{deeper, deepest, owner_of}
 use Rattle.dcop_optimum.specs.Subtree.{is_owner_within}
-use Rattle.dpop_made.specs.Edits.{is_on_way}
+use Rattle.edit_session.specs.Edits.{is_on_way}
 use Rattle.edit_session.specs.State.{is_touched, touched_by}
 use Rattle.edit_session.proofs.StateLaws.{marks_are}
 

@@ -20,8 +20,8 @@ use Rattle.dcop_optimum.proofs.SumLaws.{sum_same, sum_both, sum_zeros, range_sin
 use Rattle.dcop_optimum.proofs.LineLaws.{within_self, within_cases, within_above, within_within, within_root, not_both, branch_is, below_child, path_short}
 use Rattle.dcop_optimum.proofs.JoinLaws.{children_parent, child_named}
 use Rattle.dcop_optimum.proofs.OwnerLaws.{one_part}
-use Rattle.dpop_runs.proofs.ListLaws.{has_head, has_tail, filter_distinct}
-use Rattle.dpop_runs.proofs.FullLaws.{child_is}
+use Rattle.run_laws.proofs.ListLaws.{has_head, has_tail, filter_distinct}
+use Rattle.run_laws.proofs.FullLaws.{child_is}
 
 -- what stands in lists joined end to end stands in that of some element
 in_flat_map : (f : ℕ → List ℕ) (xs : List ℕ) (u : ℕ) → has (flat_map f xs) u ≡ true → (c : ℕ) × (has xs c ≡ true) × (has (f c) u ≡ true)

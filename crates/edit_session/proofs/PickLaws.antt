@@ -20,8 +20,8 @@ use Rattle.dpop_agent.specs.Remade.{sent_of}
 use Rattle.dpop_agent.specs.Sound.{IsKeeper}
 use Rattle.dpop_agent.proofs.RemakeLaws.{sent_keeper}
 use Rattle.dpop_agent.proofs.CellLaws.{joint_names, joint_sizes, joint_size, picked_best}
-use Rattle.dpop_made.specs.Held.{agent_with, AreAllHeld}
-use Rattle.dpop_made.specs.Laws.{AreChildrenHeld, ChildrenMayBeJoined, PicksReadSeparators}
+use Rattle.edit_session.specs.Held.{agent_with, AreAllHeld}
+use Rattle.edit_session.specs.MadeLaws.{AreChildrenHeld, ChildrenMayBeJoined, PicksReadSeparators}
 use Rattle.edit_session.specs.Loops.{IsGround}
 use Rattle.edit_session.proofs.LoopLaws.{children_all, values_within}
 

@@ -14,10 +14,10 @@ use Rattle.dcop_optimum.specs.Subtree.{is_owner_within}
 use Rattle.dcop_optimum.specs.Goal.{top_of}
 use Rattle.dcop_optimum.proofs.LineLaws.{within_within, within_cases, below_in_tree}
 use Rattle.problem_text.specs.File.{TextFile}
-use Rattle.problem_solved.specs.Goal.{problem_solved}
+use Rattle.minimised_problem.specs.Goal.{problem_solved}
 use Rattle.dpop_agent.specs.declared.made.Made.{Made}
-use Rattle.dpop_made.specs.Held.{AreHeldFrom, AreAllHeld}
-use Rattle.dpop_made.specs.Edits.{table_at, with_cells, is_on_way, EditsLeaveOthers}
+use Rattle.edit_session.specs.Held.{AreHeldFrom, AreAllHeld}
+use Rattle.edit_session.specs.Edits.{table_at, with_cells, is_on_way, EditsLeaveOthers}
 use Rattle.edit_session.specs.State.{is_touched, touched_by, edited_file}
 use Rattle.edit_session.specs.Session.{IsSession, turned_for, turned_cells}
 use Rattle.edit_session.specs.Loops.{IsGround, HasReplaced, StayHeld}

@@ -5,7 +5,7 @@ use Rattle.dcop_base.specs.Table.{CostTable}
 use Rattle.dcop_base.specs.Problem.{Dcop}
 use Rattle.dcop_base.specs.Limits.{amount_limit, cost_limit}
 use Rattle.dcop_optimum.specs.Goal.{top_of}
-use Rattle.dpop_made.specs.Edits.{no_table, with_cells}
+use Rattle.edit_session.specs.Edits.{no_table, with_cells}
 use Rattle.edit_session.specs.declared.fault.SetFault.{SetFault}
 use Rattle.edit_session.specs.declared.fault.SetFault.TheVariants.{NoTable, NoCell, CostTooLarge, SumTooLarge, NoMemory}
 

@@ -7,10 +7,10 @@ use Rattle.dcop_base.specs.Problem.{Dcop}
 use Rattle.pseudotree.specs.Pseudotree.{IsPseudotreeOf, IsLinked, RootedTree}
 use Rattle.pseudotree.specs.Width.{IsNarrow, joined_cells}
 use Rattle.dpop_agent.specs.declared.made.Made.{Made}
-use Rattle.dpop_made.specs.Held.{AreHeldFrom}
+use Rattle.edit_session.specs.Held.{AreHeldFrom}
 use Rattle.dcop_optimum.specs.Goal.{top_of}
 use Rattle.problem_text.specs.File.{TextFile}
-use Rattle.dpop_made.specs.Edits.{table_at, with_cells}
+use Rattle.edit_session.specs.Edits.{table_at, with_cells}
 use Rattle.edit_session.specs.State.{is_touched, touched_by, edited_file}
 use Rattle.edit_session.specs.Session.{turned_cells}
 

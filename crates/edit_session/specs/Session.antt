@@ -9,9 +9,9 @@ use Rattle.dcop_optimum.specs.Goal.{turned, top_of}
 use Rattle.problem_text.specs.File.{TextFile}
 use Rattle.problem_text.specs.declared.file.Goal.{Goal}
 use Rattle.problem_text.specs.declared.file.Goal.TheVariants.{Min, Max}
-use Rattle.problem_solved.specs.Goal.{problem_solved}
+use Rattle.minimised_problem.specs.Goal.{problem_solved}
 use Rattle.dpop_agent.specs.declared.made.Made.{Made}
-use Rattle.dpop_made.specs.Held.{AreHeldFrom}
+use Rattle.edit_session.specs.Held.{AreHeldFrom}
 use Rattle.edit_session.specs.State.{SessionState, opened, solved_now, tree_now, is_touched}
 use Rattle.edit_session.specs.declared.fault.OpenFault.{OpenFault}
 use Rattle.edit_session.specs.declared.fault.OpenFault.TheVariants.{Wide, NoMemory}

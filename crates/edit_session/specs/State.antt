@@ -8,8 +8,8 @@ use Rattle.pseudotree.specs.Width.{joined_cells}
 use Rattle.dcop_optimum.specs.TreeOptimum.{IsFirstOptimumOf}
 use Rattle.problem_text.specs.File.{TextFile}
 use Rattle.problem_text.specs.declared.edited.Edited.{Edited}
-use Rattle.problem_solved.specs.Goal.{problem_solved}
-use Rattle.dpop_made.specs.Edits.{table_at, with_cells, is_on_way}
+use Rattle.minimised_problem.specs.Goal.{problem_solved}
+use Rattle.edit_session.specs.Edits.{table_at, with_cells, is_on_way}
 
 -- the current file, and for each agent whether it is touched
 pub record SessionState : Type 0 where

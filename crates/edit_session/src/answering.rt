@@ -3,8 +3,8 @@
 ghost use Rattle.std.specs.Prelude.{◌≡◌, ◌+◌, ◌≤◌, false, IfOk, OnOk, OnErr, length, replicate};
 ghost use Rattle.dcop_base.specs.Problem.{IsAssignment, cost};
 ghost use Rattle.pseudotree.specs.DepthFirst.{dfs};
-ghost use Rattle.dpop_made.specs.Held.{AreAllHeld};
-ghost use Rattle.problem_solved.specs.Goal.{problem_solved};
+ghost use Rattle.edit_session.specs.Held.{AreAllHeld};
+ghost use Rattle.minimised_problem.specs.Goal.{problem_solved};
 ghost use Rattle.edit_session.specs.Loops.{IsGround, StayHeld, AreOthersHeld};
 ghost use Rattle.edit_session.specs.State.{IsAnswerNow, touched_cells};
 

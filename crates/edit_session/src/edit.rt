@@ -8,7 +8,7 @@ ghost use Rattle.dcop_base.specs.Table.{greatest, table_fault};
 ghost use Rattle.dcop_base.specs.Faults.{greatest_sum};
 ghost use Rattle.dcop_base.specs.Whole.{IsProblem};
 ghost use Rattle.dcop_optimum.specs.Goal.{top_of};
-ghost use Rattle.dpop_made.specs.Edits.{no_table, recelled, with_cells};
+ghost use Rattle.edit_session.specs.Edits.{no_table, recelled, with_cells};
 ghost use Rattle.edit_session.specs.Faults.{IsFaultOf, IsReplacement, cell_fault, cells_fault, cells_set, cells_in};
 ghost use Rattle.edit_session.specs.State.{edited_file};
 ghost use Rattle.edit_session.specs.Session.{turned_cells};

@@ -4,7 +4,7 @@ ghost use Rattle.std.specs.Prelude.{◌≡◌, ℕ, ◌<◌, ◌||◌, Some, All
 ghost use Rattle.dcop_base.specs.Table.{has};
 ghost use Rattle.pseudotree.specs.Owner.{deeper, owner_of};
 ghost use Rattle.pseudotree.specs.Tree.{IsTree};
-ghost use Rattle.dpop_made.specs.Edits.{table_at};
+ghost use Rattle.edit_session.specs.Edits.{table_at};
 ghost use Rattle.edit_session.specs.State.{is_touched, touched_by};
 
 use dcop_base::{Problem, VarId, problem_is_whole};

@@ -5,12 +5,12 @@ ghost use Rattle.dcop_base.specs.Problem.{IsAssignment};
 ghost use Rattle.pseudotree.specs.Pseudotree.{separator_of};
 ghost use Rattle.protocol_steps.specs.Dpop.{best_value};
 ghost use Rattle.dcop_optimum.specs.TreeOptimum.{IsFirstOptimumOf};
-ghost use Rattle.dpop_made.specs.Held.{agent_with, AreAllHeld};
+ghost use Rattle.edit_session.specs.Held.{agent_with, AreAllHeld};
 ghost use Rattle.edit_session.specs.Loops.{IsGround};
 
+use crate::law::{children_may_be_joined, lowest_picks_are_first, picks_read_separators};
 use dcop_base::{NoMemory, Problem, Val, VarId, problem_is_whole};
 use dpop_agent::Made;
-use dpop_made::{children_may_be_joined, lowest_picks_are_first, picks_read_separators};
 use pseudotree::Tree;
 use std::alloc::Global;
 use util_project::pick;

@@ -8,10 +8,10 @@ use Rattle.run_log.specs.declared.log.LogEvent.{LogEvent}
 use Rattle.problem_text.specs.File.{TextFile}
 use Rattle.certificate_text.specs.declared.report.Report.{Report}
 use Rattle.certificate_text.specs.declared.verdict.Differs.{Differs}
-use Rattle.problem_solved.specs.Verdict.{verdict_by, ShowsBest}
-use Rattle.log_holds.specs.Differences.{log_difference}
-use Rattle.log_holds.specs.Verdicts.{IsLogExact}
-use Rattle.log_holds.specs.Laws.{LogsShow, DifferencesAreExact}
+use Rattle.minimised_problem.specs.Verdict.{verdict_by, ShowsBest}
+use Rattle.minimised_problem.specs.Differences.{log_difference}
+use Rattle.minimised_problem.specs.LogVerdicts.{IsLogExact}
+use Rattle.minimised_problem.specs.LogLaws.{LogsShow, DifferencesAreExact}
 use Rattle.log_check.specs.Shows.{ShowsReport}
 
 -- pairs the other way round

@@ -18,7 +18,7 @@ use Rattle.problem_text.specs.File.{TextFile}
 use Rattle.certificate_text.specs.declared.report.Report.{Report}
 use Rattle.certificate_text.specs.declared.verdict.Differs.{Differs}
 use Rattle.certificate_text.specs.declared.verdict.Differs.TheVariants as differences
-use Rattle.problem_solved.specs.Goal.{problem_solved}
+use Rattle.minimised_problem.specs.Goal.{problem_solved}
 use Rattle.delivery_core.specs.declared.start.Start.{Start}
 use Rattle.delivery_core.specs.Agents.{agents_of, network_of}
 use Rattle.delivery_core.specs.Faults.{FirstFault}
@@ -29,9 +29,9 @@ use Rattle.log_replay.specs.declared.fault.LogFault.TheVariants.{BadEvent, BadSt
 use Rattle.log_replay.specs.Wrong.{difference_of}
 use Rattle.log_replay.specs.Replays.{first_wrong, ReplaysLog}
 use Rattle.log_check.specs.Shows.{IsToldBy}
-use Rattle.log_holds.specs.Differences.{unlawful, fault_in, stamp_in, played, end_difference, log_difference}
-use Rattle.log_holds.specs.Holds.{agents_for}
-use Rattle.log_holds.proofs.PlayedLaws.{run-lawful}
+use Rattle.minimised_problem.specs.Differences.{unlawful, fault_in, stamp_in, played, end_difference, log_difference}
+use Rattle.minimised_problem.specs.LogHolds.{agents_for}
+use Rattle.minimised_problem.proofs.PlayedLaws.{run-lawful}
 
 fine_of : (net next : Network) (e : Event) → Happens net e next → event_fault net e ≡ None
 fine_of net next e h = rw (h.views, h.desks) h.fine

@@ -7,14 +7,14 @@ use Rattle.dcop_base.specs.Limits.{amount_limit, count_limit}
 use Rattle.protocol_steps.specs.View.{View, ended_of, value_of}
 use Rattle.protocol_steps.specs.Network.{Network}
 use Rattle.protocol_steps.specs.Effect.{has_ended, deliveries}
-use Rattle.adopt_ends.specs.EndLaw.{values_of}
+use Rattle.run_laws.specs.AdoptEnd.{values_of}
 use Rattle.problem_text.specs.File.{TextFile}
 use Rattle.certificate_text.specs.declared.report.Report.{Report}
 use Rattle.certificate_text.specs.declared.verdict.Differs.{Differs}
 use Rattle.certificate_text.specs.declared.verdict.Differs.TheVariants.{Deliveries}
 use Rattle.delivery_core.specs.State.{CoreView, views_of}
 use Rattle.delivery_core.specs.NetworkState.{IsStateOf}
-use Rattle.log_holds.specs.Differences.{status_difference, count_difference, value_difference, bound_difference, standing_at, root_standing, end_difference}
+use Rattle.minimised_problem.specs.Differences.{status_difference, count_difference, value_difference, bound_difference, standing_at, root_standing, end_difference}
 use Rattle.log_check.specs.Ends.{core_difference}
 
 -- a count that is cut off differs from a printed number where the count itself does

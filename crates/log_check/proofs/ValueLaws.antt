@@ -5,7 +5,7 @@ use Rattle.std.proofs.lemmas.Bool.{cond-true, cond-false, eq-eqb, ne_eqb}
 use Rattle.std.proofs.lemmas.List.{drop_more}
 use Rattle.std.proofs.lemmas.Option.{slice_get_within, get_or_from_slice_get}
 use Rattle.certificate_text.specs.declared.verdict.Differs.TheVariants.{Value}
-use Rattle.log_holds.specs.Differences.{value_difference}
+use Rattle.minimised_problem.specs.Differences.{value_difference}
 
 next_value : (vs ws : List ℕ) (k v w : ℕ) → k < length vs → v ≡ get_or vs k v → slice_get ws k ≡ Some w
     → value_difference k (drop k vs) (drop k ws) ≡ (if v == w then value_difference (k + 1) (drop (k + 1) vs) (drop (k + 1) ws) else Some (Value k))

@@ -7,7 +7,7 @@ use Rattle.problem_text.specs.File.{TextFile}
 use Rattle.certificate_text.specs.declared.report.Report.{Report}
 use Rattle.certificate_text.specs.declared.verdict.Differs.{Differs}
 use Rattle.delivery_core.specs.State.{CoreView, views_of, view_at}
-use Rattle.log_holds.specs.Differences.{status_difference, count_difference, value_difference, bound_difference, standing_at}
+use Rattle.minimised_problem.specs.Differences.{status_difference, count_difference, value_difference, bound_difference, standing_at}
 
 -- the first difference from a core state: the status, the deliveries and the values must be those
 -- of the core state, and so must the bounds

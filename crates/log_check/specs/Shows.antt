@@ -9,7 +9,7 @@ use Rattle.certificate_text.specs.declared.verdict.Verdict.{Verdict}
 use Rattle.certificate_text.specs.declared.verdict.Verdict.TheVariants.{Yes, No}
 use Rattle.log_replay.specs.declared.fault.LogFault.{LogFault}
 use Rattle.log_replay.specs.declared.fault.LogFault.TheVariants.{BadEvent, BadStamp, NoMemory}
-use Rattle.log_holds.specs.Laws.{IsShown}
+use Rattle.minimised_problem.specs.LogLaws.{IsShown}
 
 -- a verdict yes shows that what the report says about the file is true
 abbrev pub ShowsReport : TextFile → Report → Verdict → Type 0

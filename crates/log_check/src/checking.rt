@@ -9,10 +9,10 @@ ghost use Rattle.protocol_steps.specs.TreeAgents.{adopt_agents};
 ghost use Rattle.delivery_core.specs.Agents.{IsStartFor, agents_of};
 ghost use Rattle.run_log.specs.LogText.{FitsEvent};
 ghost use Rattle.certificate_text.specs.Fits.{Fits};
-ghost use Rattle.problem_solved.specs.Goal.{solved};
-ghost use Rattle.problem_solved.specs.Verdict.{ShowsBest};
-ghost use Rattle.log_holds.specs.Differences.{log_difference};
-ghost use Rattle.log_holds.specs.Verdicts.{IsLogVerdict, IsLogExact};
+ghost use Rattle.minimised_problem.specs.Goal.{solved};
+ghost use Rattle.minimised_problem.specs.Verdict.{ShowsBest};
+ghost use Rattle.minimised_problem.specs.Differences.{log_difference};
+ghost use Rattle.minimised_problem.specs.LogVerdicts.{IsLogVerdict, IsLogExact};
 ghost use Rattle.log_check.specs.Shows.{IsToldBy, ShowsReport};
 
 use crate::end::end_difference;
@@ -21,13 +21,13 @@ use dcop_base::{NoMemory, Problem, problem_is_whole};
 use dcop_edge::OpenGate;
 use delivery_core::Start;
 use delivery_turns::play_out;
-use log_holds::{differences_are_exact, logs_show};
 use log_replay::{LogFault, WrongStamp, replay_log};
-use problem_solved::{ProblemSolved, verdict_of};
+use minimised_problem::{
+    ProblemSolved, differences_are_exact, logs_show, search_deliveries, tree_found, verdict_of,
+};
 use problem_text::ProblemFile;
 use run_log::LogEvent;
 use std::alloc::Global;
-use tree_search::{search_deliveries, tree_found};
 
 /// Checks whether a report with this log shows that no values are better by more than its gap.
 ///

@@ -8,8 +8,8 @@ ghost use Rattle.protocol_steps.specs.View.{value_of};
 ghost use Rattle.protocol_steps.specs.Network.{Network};
 ghost use Rattle.delivery_core.specs.State.{views_of};
 ghost use Rattle.delivery_core.specs.NetworkState.{IsStateOf};
-ghost use Rattle.problem_solved.specs.Goal.{solved};
-ghost use Rattle.log_holds.specs.Differences.{status_difference, count_difference, value_difference, end_difference};
+ghost use Rattle.minimised_problem.specs.Goal.{solved};
+ghost use Rattle.minimised_problem.specs.Differences.{status_difference, count_difference, value_difference, end_difference};
 ghost use Rattle.log_check.specs.Ends.{core_difference};
 
 use crate::numbers::bound_difference;

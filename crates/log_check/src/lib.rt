@@ -5,8 +5,8 @@
 //! first difference. It trusts neither the report nor its maker. [`start_for`] gives the start of
 //! that run.
 //!
-//! It builds on `log_replay` to play the log, on `log_holds` for the conditions and laws, and on
-//! `delivery_turns` and `tree_search` to find the tree.
+//! It builds on `log_replay` to play the log, on `delivery_turns` to run the token agents, and on
+//! `minimised_problem` for the tree that they find, the conditions and the laws.
 #![tactic(auto)]
 
 mod checking;

@@ -2,15 +2,15 @@
 
 ghost use Rattle.std.specs.Prelude.{◌≡◌, ◌-◌};
 ghost use Rattle.dcop_base.specs.Problem.{IsAssignment};
-ghost use Rattle.problem_solved.specs.Goal.{solved};
-ghost use Rattle.problem_solved.specs.Gap.{gap_of};
-ghost use Rattle.log_holds.specs.Ends.{least_known, lower_for, upper_for};
-ghost use Rattle.log_holds.specs.Differences.{error_difference, bound_difference};
+ghost use Rattle.minimised_problem.specs.Goal.{solved};
+ghost use Rattle.minimised_problem.specs.Gap.{gap_of};
+ghost use Rattle.minimised_problem.specs.LogEnds.{least_known, lower_for, upper_for};
+ghost use Rattle.minimised_problem.specs.Differences.{error_difference, bound_difference};
 
 use certificate_text::{Differs, Ending, Report};
 use dcop_base::{Problem, cost_of};
 use dcop_optimum::top_sum;
-use problem_solved::gap_of;
+use minimised_problem::gap_of;
 use problem_text::{Goal, ProblemFile};
 use protocol_steps::Standing;
 

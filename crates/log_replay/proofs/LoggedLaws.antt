@@ -17,12 +17,12 @@ use Rattle.protocol_steps.specs.StampLaw.{TakenIsPrefix, Shows}
 use Rattle.protocol_steps.specs.JournalStamps.{journal_at}
 use Rattle.protocol_steps.proofs.JournalLaws.{journals_decide}
 use Rattle.protocol_steps.proofs.JournalStampLaws.{starts_show, journal_of_deeds}
-use Rattle.worker_runs.specs.Acts.{entry_of as entry_done, journal_of}
-use Rattle.worker_runs.specs.Merges.{AscendsAbove, ComesFirst, IsOrdered, IsMerge, entries_in}
-use Rattle.worker_runs.proofs.SortLaws.{First, Ordered, OfAgent}
-use Rattle.worker_runs.proofs.MergeLaws.{one_merge}
-use Rattle.worker_runs.proofs.TakeLaws.{deed_agent, deed_stamp, deeds_ascend}
-use Rattle.worker_runs.proofs.PieceLaws.{Piece, piece, by_stamp}
+use Rattle.worker_laws.specs.Acts.{entry_of as entry_done, journal_of}
+use Rattle.worker_laws.specs.Merges.{AscendsAbove, ComesFirst, IsOrdered, IsMerge, entries_in}
+use Rattle.worker_laws.proofs.SortLaws.{First, Ordered, OfAgent}
+use Rattle.worker_laws.proofs.MergeLaws.{one_merge}
+use Rattle.worker_laws.proofs.TakeLaws.{deed_agent, deed_stamp, deeds_ascend}
+use Rattle.worker_laws.proofs.PieceLaws.{Piece, piece, by_stamp}
 use Rattle.run_log.specs.declared.log.LogEvent.{LogEvent}
 use Rattle.run_log.specs.Logs.{entries_of, events_of}
 use Rattle.run_log.specs.LogStamps.{start_stamps, stamp_difference, HasRightStamps}

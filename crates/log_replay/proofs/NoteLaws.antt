@@ -26,9 +26,9 @@ use Rattle.protocol_steps.proofs.EventLaws.{Happens, happens_from, both_none}
 use Rattle.protocol_steps.proofs.AccountLaws.{form_parts}
 use Rattle.protocol_steps.proofs.StampLaws.{after_one, same_after, same_pieces, still_prefix, longer_prefix, waits_by}
 use Rattle.protocol_steps.proofs.JournalStampLaws.{starts_show}
-use Rattle.worker_runs.specs.Acts.{entry_of, journal_of}
-use Rattle.worker_runs.proofs.ActLaws.{deeds_append}
-use Rattle.worker_runs.proofs.TellLaws.{first, starts}
+use Rattle.worker_laws.specs.Acts.{entry_of, journal_of}
+use Rattle.worker_laws.proofs.ActLaws.{deeds_append}
+use Rattle.worker_laws.proofs.TellLaws.{first, starts}
 use Rattle.run_log.specs.declared.log.LogEvent.{LogEvent}
 use Rattle.run_log.specs.LogStamps.{LinkStamps, start_stamps, stamps_after, taken_stamps}
 use Rattle.run_log.proofs.TakenLaws.{logged, takes_again, gained_first}

@@ -8,7 +8,7 @@ use Rattle.protocol_steps.specs.declared.event.EventFault.TheVariants.{TooMany}
 use Rattle.protocol_steps.specs.Network.{Desk, taken_from, waiting}
 use Rattle.protocol_steps.specs.Run.{ascends_from, too_many}
 use Rattle.protocol_steps.proofs.EventLaws.{not_then}
-use Rattle.delivery_core.proofs.InboxLaws.{asc_parts}
+use Rattle.letter_queues.proofs.InboxLaws.{asc_parts}
 use Rattle.log_replay.proofs.RowLaws.{first_known}
 
 -- nothing is taken of a sender below all others

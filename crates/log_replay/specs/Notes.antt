@@ -15,7 +15,7 @@ use Rattle.protocol_steps.specs.Stamps.{Deed, Account}
 use Rattle.protocol_steps.specs.Deeds.{event_of, AreDeeds, deeds_of, after_all, posted_to}
 use Rattle.protocol_steps.specs.StampLaw.{TakenIsPrefix, Shows}
 use Rattle.protocol_steps.specs.JournalStamps.{AreStarts, journal_at}
-use Rattle.worker_runs.specs.Acts.{journal_of}
+use Rattle.worker_laws.specs.Acts.{journal_of}
 use Rattle.run_log.specs.declared.log.LogEvent.{LogEvent}
 use Rattle.run_log.specs.Logs.{events_of}
 use Rattle.run_log.specs.LogStamps.{LinkStamps}

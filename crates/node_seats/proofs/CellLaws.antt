@@ -7,10 +7,10 @@ use Rattle.std.specs.declared.alloc.Global.{Global}
 use Rattle.dcop_base.specs.Limits.{variable_limit}
 use Rattle.dcop_base.specs.Problem.{Dcop}
 use Rattle.protocol_steps.specs.View.{View}
-use Rattle.worker_runs.specs.Cells.{peers}
-use Rattle.worker_runs.specs.NodeRounds.{home}
-use Rattle.worker_runs.proofs.EachLaws.{there}
-use Rattle.node_runs.specs.Wires.{Wire}
+use Rattle.worker_laws.specs.Cells.{peers}
+use Rattle.worker_laws.specs.OneNode.{home}
+use Rattle.worker_laws.proofs.EachLaws.{there}
+use Rattle.worker_laws.specs.Wires.{Wire}
 use Rattle.delivery_core.specs.declared.start.Start.{Start}
 use Rattle.delivery_core.specs.Agents.{agents_of}
 use Rattle.agent_cells.specs.declared.cell.Cell.{Cell}
@@ -19,10 +19,10 @@ use Rattle.agent_cells.specs.Settled.{TailJoins, HeadJoins}
 use Rattle.agent_cells.specs.State.{state_of}
 use Rattle.agent_links.specs.Ready.{IsNewCell, AreReadyIn}
 use Rattle.agent_links.proofs.ReadyLaws.{new_ready_in}
-use Rattle.agent_seats.specs.declared.seat.Seat.{Seat}
-use Rattle.agent_seats.specs.Seats.{all_neighbours}
-use Rattle.agent_seats.proofs.SeatLaws.{lists_size}
-use Rattle.agent_seats.proofs.CellLaws.{IsCellOf, all_beside, agents_size, seated_new}
+use Rattle.agent_links.specs.declared.seat.Seat.{Seat}
+use Rattle.agent_links.specs.Seats.{all_neighbours}
+use Rattle.agent_links.proofs.SeatLaws.{lists_size}
+use Rattle.agent_links.proofs.CellLaws.{IsCellOf, all_beside, agents_size, seated_new}
 use Rattle.tcp_links.specs.declared.plan.InnerEnds.{InnerEnds}
 use Rattle.tcp_links.specs.declared.plan.NodePlan.{NodePlan}
 use Rattle.tcp_links.specs.Plans.{IsBetween, IsNewPlan}

@@ -4,8 +4,8 @@ use Rattle.std.specs.List.{Contains, range_with_len}
 use Rattle.std.proofs.lemmas.Option.{none-some}
 use Rattle.std.proofs.lemmas.List.{length-append, length-map, get_or-map, get_or_append_left, get_or-append_right}
 use Rattle.dcop_base.proofs.FirstLaws.{Contains-range}
-use Rattle.worker_runs.specs.NodeRounds.{home}
-use Rattle.node_runs.specs.Wires.{Wire}
+use Rattle.worker_laws.specs.OneNode.{home}
+use Rattle.worker_laws.specs.Wires.{Wire}
 use Rattle.agent_links.specs.Links.{row, pairs_to}
 use Rattle.agent_links.proofs.ListLaws.{from_parts, into_parts}
 use Rattle.tcp_links.specs.declared.plan.NodePlan.{NodePlan}

@@ -9,9 +9,9 @@ use Rattle.protocol_steps.specs.declared.message.Message.{Message}
 use Rattle.fifo_links.specs.declared.ends.LinkTail.{LinkTail}
 use Rattle.fifo_links.specs.declared.ends.LinkHead.{LinkHead}
 use Rattle.fifo_links.specs.Link.{AreEnds, sent_on, taken_from}
-use Rattle.worker_runs.proofs.EachLaws.{there}
-use Rattle.node_runs.specs.Wires.{Wire}
-use Rattle.kept_wires.specs.Differences.{ComesBefore}
+use Rattle.worker_laws.proofs.EachLaws.{there}
+use Rattle.worker_laws.specs.Wires.{Wire}
+use Rattle.link_records.specs.Differences.{ComesBefore}
 use Rattle.agent_cells.specs.Links.{Tail, Head}
 use Rattle.agent_cells.specs.Settled.{StandsAt}
 use Rattle.agent_links.specs.Links.{pushed}

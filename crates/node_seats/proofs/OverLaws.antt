@@ -16,9 +16,9 @@ use Rattle.dcop_base.proofs.UniqueLaws.{IsStrictlyIncreasing-tail, head_below}
 use Rattle.protocol_steps.specs.declared.message.Message.{Message}
 use Rattle.fifo_links.specs.declared.ends.LinkTail.{LinkTail}
 use Rattle.fifo_links.specs.declared.ends.LinkHead.{LinkHead}
-use Rattle.worker_runs.specs.NodeRounds.{home}
-use Rattle.node_runs.specs.Wires.{Wire}
-use Rattle.kept_wires.specs.Differences.{ComesBefore}
+use Rattle.worker_laws.specs.OneNode.{home}
+use Rattle.worker_laws.specs.Wires.{Wire}
+use Rattle.link_records.specs.Differences.{ComesBefore}
 use Rattle.agent_cells.specs.Links.{Tail, Head}
 use Rattle.agent_cells.specs.Settled.{StandsAt}
 use Rattle.agent_links.specs.Beside.{AreBeside, neighbours_in}

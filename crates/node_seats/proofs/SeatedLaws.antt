@@ -11,10 +11,10 @@ use Rattle.dcop_base.specs.declared.memory.NoMemory.{NoMemory}
 use Rattle.delivery_core.specs.declared.start.Start.{Start}
 use Rattle.agent_cells.specs.Links.{Tail, Head}
 use Rattle.agent_links.specs.Beside.{neighbours_in}
-use Rattle.agent_seats.specs.declared.seat.Seat.{Seat}
-use Rattle.agent_seats.specs.Seats.{all_neighbours, HaveEnds, AreSeated}
-use Rattle.agent_seats.proofs.SeatLaws.{known_lists}
-use Rattle.agent_seats.proofs.EndLaws.{links_end}
+use Rattle.agent_links.specs.declared.seat.Seat.{Seat}
+use Rattle.agent_links.specs.Seats.{all_neighbours, HaveEnds, AreSeated}
+use Rattle.agent_links.proofs.SeatLaws.{known_lists}
+use Rattle.agent_links.proofs.EndLaws.{links_end}
 use Rattle.tcp_links.specs.declared.plan.NodePlan.{NodePlan}
 use Rattle.tcp_links.specs.Plans.{IsNewPlan}
 use Rattle.node_seats.specs.Links.{node_in, AreLinksOver}

@@ -3,8 +3,8 @@ use Rattle.std.specs.Prelude.{◌≡◌, List}
 use Rattle.dcop_base.specs.Problem.{Dcop}
 use Rattle.agent_cells.specs.Links.{Tail, Head}
 use Rattle.delivery_core.specs.declared.start.Start.{Start}
-use Rattle.agent_seats.specs.declared.seat.Seat.{Seat}
-use Rattle.agent_seats.specs.Seats.{all_neighbours, AreSeated}
+use Rattle.agent_links.specs.declared.seat.Seat.{Seat}
+use Rattle.agent_links.specs.Seats.{all_neighbours, AreSeated}
 use Rattle.tcp_links.specs.declared.plan.NodePlan.{NodePlan}
 use Rattle.tcp_links.specs.Plans.{IsPlan}
 use Rattle.node_seats.specs.Links.{AreLinksOver}

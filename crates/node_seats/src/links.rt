@@ -6,7 +6,7 @@ ghost use Rattle.std.specs.List.Sorted.{IsStrictlyIncreasing};
 ghost use Rattle.dcop_base.specs.Limits.{variable_limit};
 ghost use Rattle.agent_links.specs.Beside.{AreBeside, neighbours_in};
 ghost use Rattle.agent_links.specs.Links.{rows_in, pushed};
-ghost use Rattle.kept_wires.specs.Differences.{ComesBefore};
+ghost use Rattle.link_records.specs.Differences.{ComesBefore};
 ghost use Rattle.tcp_links.specs.Plans.{IsPlan, IsNewPlan, IsSamePlan, HasNoLink, fresh_link};
 ghost use Rattle.node_seats.specs.Links.{AreLinksOver, IsNodeLink, ComeBefore, AddLinksOver, AddAllLinksOver};
 ghost use Rattle.node_seats.specs.Seats.{IsSameFrame};
@@ -17,7 +17,7 @@ use dcop_base::{NoMemory, Private, VarId};
 use fifo_links::{LinkHead, LinkTail, link};
 use std::alloc::Global;
 use tcp_links::NodePlan;
-use wire_edge::Wire;
+use wire_pump::Wire;
 
 /// A link from each agent to each of its neighbours: a ring inside a node, and a link of the plan
 /// between two nodes. Nothing was sent on any of them. `known` has what each agent knows, agent i

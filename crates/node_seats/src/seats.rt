@@ -6,12 +6,12 @@ ghost use Rattle.tcp_links.specs.Plans.{IsNewPlan};
 ghost use Rattle.node_seats.specs.Seats.{AreSeatsOver, IsSameFrame};
 
 use crate::links::link_over;
-use agent_seats::{Seat, known_in, seat_all};
+use agent_links::{Seat, known_in, seat_all};
 use dcop_base::{NoMemory, Problem, problem_is_whole};
 use delivery_core::Start;
 use std::alloc::Global;
 use tcp_links::NodePlan;
-use wire_edge::Wire;
+use wire_pump::Wire;
 
 /// The agents of a start in the nodes of a plan, linked to their neighbours. The plan has no links
 /// yet.

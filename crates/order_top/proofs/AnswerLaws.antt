@@ -13,13 +13,13 @@ use Rattle.solve_words.specs.declared.fault.WordFault.{WordFault}
 use Rattle.solve_words.specs.declared.fault.WordFault.TheVariants as words
 use Rattle.solve_report.specs.declared.answer.Answer.{Answer}
 use Rattle.solve_report.specs.declared.answer.Answer.TheVariants as answers
-use Rattle.answer_edge.specs.declared.status.Status.TheVariants.{ReadFault}
-use Rattle.answer_edge.proofs.InputLaws.{taken-least, count-stays}
-use Rattle.answer_edge.specs.Showing.{StaysUnless}
-use Rattle.answer_edge.specs.Input.{Input, Unread, Broken, TooLong, Whole, SourceState, IsAllOf, IsReadFrom}
-use Rattle.answer_edge.specs.Statuses.{status_of}
-use Rattle.answer_edge.specs.Whole.{whole_read}
-use Rattle.answer_edge.proofs.StatusLaws.{read-alone}
+use Rattle.answer_io.specs.declared.status.Status.TheVariants.{ReadFault}
+use Rattle.answer_io.proofs.InputLaws.{taken-least, count-stays}
+use Rattle.answer_io.specs.Showing.{StaysUnless}
+use Rattle.answer_io.specs.Input.{Input, Unread, Broken, TooLong, Whole, SourceState, IsAllOf, IsReadFrom}
+use Rattle.answer_io.specs.Statuses.{status_of}
+use Rattle.answer_io.specs.Whole.{whole_read}
+use Rattle.answer_io.proofs.StatusLaws.{read-alone}
 use Rattle.order_top.specs.declared.words.Asked.{Asked}
 use Rattle.order_top.specs.Words.{order_answer_to}
 use Rattle.order_top.specs.Answering.{IsOrdered, IsTextAnswer, IsInputAnswer, IsAskedAnswer}

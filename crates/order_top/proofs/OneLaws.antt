@@ -11,8 +11,8 @@ use Rattle.solve_report.specs.declared.answer.Answer.{Answer}
 use Rattle.solve_report.specs.declared.answer.Answer.TheVariants as answers
 use Rattle.solve_words.specs.declared.fault.WordFault.{WordFault}
 use Rattle.solve_words.specs.declared.fault.WordFault.TheVariants as words
-use Rattle.answer_edge.specs.Input.{Input, Unread, Broken, TooLong, Whole}
-use Rattle.answer_edge.specs.Whole.{whole_read}
+use Rattle.answer_io.specs.Input.{Input, Unread, Broken, TooLong, Whole}
+use Rattle.answer_io.specs.Whole.{whole_read}
 use Rattle.order_top.specs.declared.words.Asked.{Asked}
 use Rattle.order_top.specs.Words.{order_answer_to}
 use Rattle.order_top.specs.Answering.{IsOrderedAs, IsOrdered, IsTextAnswer, IsInputAnswer, IsAskedAnswer, OrderAnswersAreOne}

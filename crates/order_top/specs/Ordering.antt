@@ -4,12 +4,12 @@ use Rattle.std.specs.Prelude.{◌≡◌, ℕ, ◌≤◌, ◌⊎◌, List, length
 use Rattle.dcop_base.specs.Limits.{input_limit}
 use Rattle.problem_text.specs.Declarations.{Declared}
 use Rattle.solve_report.specs.declared.answer.Answer.{Answer}
-use Rattle.answer_edge.specs.declared.status.Status.{Status}
-use Rattle.answer_edge.specs.declared.status.Status.TheVariants as statuses
-use Rattle.answer_edge.specs.Input.{Input, SourceState, IsReadFrom}
-use Rattle.answer_edge.specs.Output.{SinkState}
-use Rattle.answer_edge.specs.Showing.{IsShown, IsCut}
-use Rattle.answer_edge.specs.Whole.{whole_read}
+use Rattle.answer_io.specs.declared.status.Status.{Status}
+use Rattle.answer_io.specs.declared.status.Status.TheVariants as statuses
+use Rattle.answer_io.specs.Input.{Input, SourceState, IsReadFrom}
+use Rattle.answer_io.specs.Output.{SinkState}
+use Rattle.answer_io.specs.Showing.{IsShown, IsCut}
+use Rattle.answer_io.specs.Whole.{whole_read}
 use Rattle.order_top.specs.declared.words.Asked.{Asked}
 use Rattle.order_top.specs.Words.{order_answer_to}
 use Rattle.order_top.specs.Answering.{IsOrderAnswer}

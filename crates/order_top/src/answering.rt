@@ -3,13 +3,13 @@
 ghost use Rattle.std.specs.Prelude.{◌≡◌, map, IfOk, OnErr, string_bytes};
 ghost use Rattle.dcop_base.specs.Whole.{IsProblem};
 ghost use Rattle.solve_report.specs.AnswerText.{HasText};
-ghost use Rattle.answer_edge.specs.Input.{source_state};
-ghost use Rattle.answer_edge.specs.Whole.{whole_read};
+ghost use Rattle.answer_io.specs.Input.{source_state};
+ghost use Rattle.answer_io.specs.Whole.{whole_read};
 ghost use Rattle.order_top.specs.Answering.{IsTextAnswer};
 ghost use Rattle.order_top.specs.Ordering.{IsAnswered};
 
 use crate::words::{Asked, read_order_words};
-use answer_edge::{ReadEnd, fault_answer, read_all, read_whole, words_answer};
+use answer_io::{ReadEnd, fault_answer, read_all, read_whole, words_answer};
 use dcop_base::{NoMemory, problem_is_whole};
 use dcop_edge::Source;
 use order_search::narrowed;

@@ -11,6 +11,6 @@ mod law;
 mod top;
 mod words;
 
-pub use answer_edge::Status;
+pub use answer_io::Status;
 pub use law::order_answers_are_one;
 pub use top::order;

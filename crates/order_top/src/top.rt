@@ -2,13 +2,13 @@
 
 ghost use Rattle.std.specs.Prelude.{◌≡◌, ◌≢◌, ◌⊎◌, ℕ, List, Some, map, string_bytes};
 ghost use Rattle.dcop_edge.specs.Faults.{Rose};
-ghost use Rattle.answer_edge.specs.Input.{source_state};
-ghost use Rattle.answer_edge.specs.Output.{sink_state};
-ghost use Rattle.answer_edge.specs.Showing.{StaysUnless};
+ghost use Rattle.answer_io.specs.Input.{source_state};
+ghost use Rattle.answer_io.specs.Output.{sink_state};
+ghost use Rattle.answer_io.specs.Showing.{StaysUnless};
 ghost use Rattle.order_top.specs.Ordering.{Orders, IsAccepted, GoesWell};
 
 use crate::answering::answer_of;
-use answer_edge::{Status, show};
+use answer_io::{Status, show};
 use dcop_edge::{Sink, Source};
 use std::alloc::Global;
 

@@ -7,7 +7,7 @@ use Rattle.std.proofs.lemmas.List.{append_assoc}
 use Rattle.std.proofs.Math.Nat.{mul-le-mul_right}
 use Rattle.dcop_base.specs.Table.{product}
 use Rattle.protocol_steps.specs.Values.{choices}
-use Rattle.cut_laws.proofs.TurnLaws.{StandsAt, stands_at, choice_is}
+use Rattle.run_laws.proofs.TurnLaws.{StandsAt, stands_at, choice_is}
 
 -- a product with a number below it has no factor 0
 pub some-block : (number s block : ℕ) → number < s * block → 0 < block

@@ -5,7 +5,7 @@
 //! number, in lexicographic order, and [`slice_at`] gives the problem that is left in a turn.
 //! [`sent_in_turn`] counts the cells that all agents send in one turn.
 //!
-//! It builds on `cut_laws` for the rule of the cut set, and on `cost_table` for slices of tables.
+//! It builds on `run_laws` for the rule of the cut set, and on `cost_table` for slices of tables.
 #![tactic(auto)]
 
 mod rule;

@@ -3,11 +3,11 @@
 ghost use Rattle.std.specs.Prelude.{◌≡◌, ◌++◌, ◌<◌, ◌≤◌, [], IfOk, OnOk, slice_index_or};
 ghost use Rattle.dcop_base.specs.Table.{product};
 ghost use Rattle.protocol_steps.specs.Values.{choices};
-ghost use Rattle.cut_laws.specs.Slice.{AreCut, AreCutValues, slice_of};
+ghost use Rattle.run_laws.specs.Slice.{AreCut, AreCutValues, slice_of};
 
 use cost_table::slice;
-use cut_laws::slices_are_one;
 use dcop_base::{NoMemory, Problem, Val, ValList, VarList, problem_is_whole, product_of};
+use run_laws::slices_are_one;
 use std::alloc::Global;
 
 /// The slice of a problem in a turn: the cut variables have size 1, and every table keeps the cells

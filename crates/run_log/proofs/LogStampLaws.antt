@@ -19,11 +19,11 @@ use Rattle.protocol_steps.specs.JournalStamps.{journal_at, deeds_from, AreEnough
 use Rattle.protocol_steps.proofs.EventLaws.{Happens, happens_from}
 use Rattle.protocol_steps.proofs.StampLaws.{after_one, same_after, next_prefix, still_prefix, longer_prefix, deeds_next, deed_now, stamps_order}
 use Rattle.protocol_steps.proofs.JournalStampLaws.{starts_show}
-use Rattle.worker_runs.specs.Cells.{CellState}
-use Rattle.worker_runs.specs.Merges.{ComesBefore, ComesFirst, IsOrdered, IsMerge, events_in}
-use Rattle.worker_runs.specs.CellRuns.{journals_of, IsRunOfCells}
-use Rattle.worker_runs.proofs.EachLaws.{there}
-use Rattle.worker_runs.proofs.TakeLaws.{gains_in, gains_are}
+use Rattle.worker_laws.specs.Cells.{CellState}
+use Rattle.worker_laws.specs.Merges.{ComesBefore, ComesFirst, IsOrdered, IsMerge, events_in}
+use Rattle.worker_laws.specs.CellRuns.{journals_of, IsRunOfCells}
+use Rattle.worker_laws.proofs.EachLaws.{there}
+use Rattle.worker_laws.proofs.TakeLaws.{gains_in, gains_are}
 use Rattle.run_log.specs.declared.log.LogEvent.{LogEvent}
 use Rattle.run_log.specs.Logs.{entry_of, entries_of, event_of, events_of}
 use Rattle.run_log.specs.LogStamps.{LinkStamps, StampDifference, start_stamps, right_stamp, stamps_after, follows, order_difference, event_difference, or_later, stamp_difference, HasRightStamps}

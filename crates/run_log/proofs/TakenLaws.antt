@@ -16,8 +16,8 @@ use Rattle.protocol_steps.specs.Deeds.{takes_of, AreDeeds, deeds_of, gain_from, 
 use Rattle.protocol_steps.specs.StampLaw.{IsPrefix, ByStampFrom}
 use Rattle.protocol_steps.specs.JournalStamps.{cut_off, left_of, deeds_from, AreEnough}
 use Rattle.protocol_steps.proofs.AccountLaws.{none_below, form_parts}
-use Rattle.worker_runs.specs.Merges.{ComesFirst, IsOrdered, entries_in}
-use Rattle.worker_runs.proofs.TakeLaws.{gains_in}
+use Rattle.worker_laws.specs.Merges.{ComesFirst, IsOrdered, entries_in}
+use Rattle.worker_laws.proofs.TakeLaws.{gains_in}
 use Rattle.run_log.specs.declared.log.LogEvent.{LogEvent}
 use Rattle.run_log.specs.Logs.{entry_of, entries_of}
 

@@ -3,9 +3,9 @@ use Rattle.std.specs.Prelude.{◌≡◌, ℕ, List, Some}
 use Rattle.protocol_steps.specs.View.{View}
 use Rattle.protocol_steps.specs.Network.{Network, start_state}
 use Rattle.protocol_steps.specs.Run.{run}
-use Rattle.worker_runs.specs.Cells.{CellState}
-use Rattle.worker_runs.specs.Merges.{IsMerge}
-use Rattle.worker_runs.specs.CellRuns.{journals_of, IsRunOfCells}
+use Rattle.worker_laws.specs.Cells.{CellState}
+use Rattle.worker_laws.specs.Merges.{IsMerge}
+use Rattle.worker_laws.specs.CellRuns.{journals_of, IsRunOfCells}
 use Rattle.run_log.specs.declared.log.LogEvent.{LogEvent}
 use Rattle.run_log.specs.Logs.{entries_of, events_of}
 use Rattle.run_log.specs.LogStamps.{HasRightStamps}

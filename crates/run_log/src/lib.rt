@@ -11,7 +11,7 @@
 //! exactly that text. [`read_log`] accepts exactly such lines, or returns the line and the kind of
 //! the first fault (`specs/LogReading.antt`).
 //!
-//! It builds on `protocol_steps` and `worker_runs` for journals and runs of cells, and on
+//! It builds on `protocol_steps` and `worker_laws` for journals and runs of cells, and on
 //! `problem_text` for names, lines and faults.
 #![tactic(auto)]
 

@@ -6,13 +6,13 @@ use Rattle.solve_words.specs.declared.fault.WordFault.{WordFault}
 use Rattle.solve_words.specs.declared.fault.WordFault.TheVariants as words
 use Rattle.solve_report.specs.declared.answer.Answer.{Answer}
 use Rattle.solve_report.specs.declared.answer.Answer.TheVariants as answers
-use Rattle.solve_inputs.specs.Inputs.{input_read}
-use Rattle.solve_inputs.specs.Told.{Told}
-use Rattle.solve_inputs.proofs.RefusalLaws.{input_told}
-use Rattle.answer_edge.specs.declared.status.Status.TheVariants.{ReadFault}
-use Rattle.answer_edge.proofs.InputLaws.{taken-least, count-stays}
-use Rattle.answer_edge.specs.Showing.{StaysUnless}
-use Rattle.answer_edge.specs.Input.{Input, Unread, Broken, TooLong, Whole, SourceState, IsAllOf, IsReadFrom}
+use Rattle.answer_io.specs.Inputs.{input_read}
+use Rattle.answer_io.specs.InputTold.{Told}
+use Rattle.answer_io.proofs.RefusalLaws.{input_told}
+use Rattle.answer_io.specs.declared.status.Status.TheVariants.{ReadFault}
+use Rattle.answer_io.proofs.InputLaws.{taken-least, count-stays}
+use Rattle.answer_io.specs.Showing.{StaysUnless}
+use Rattle.answer_io.specs.Input.{Input, Unread, Broken, TooLong, Whole, SourceState, IsAllOf, IsReadFrom}
 use Rattle.search_top.specs.declared.answer.SearchAnswer.{SearchAnswer}
 use Rattle.search_top.specs.declared.answer.SearchAnswer.TheVariants.{Searched, Refused}
 use Rattle.search_top.specs.declared.words.Asked.{Asked}

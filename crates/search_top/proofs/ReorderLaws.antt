@@ -11,7 +11,7 @@ use Rattle.dcop_base.specs.Whole.{IsProblem}
 use Rattle.dcop_optimum.specs.Goal.{top_of}
 use Rattle.problem_text.specs.File.{TextFile}
 use Rattle.problem_text.specs.declared.file.Goal.{Goal}
-use Rattle.problem_solved.specs.Goal.{solved, IsAtMostWorse}
+use Rattle.minimised_problem.specs.Goal.{solved, IsAtMostWorse}
 use Rattle.problem_order.specs.Reordered.{IsTableFor, IsReordered}
 use Rattle.problem_order.specs.Costs.{CostTheSame}
 use Rattle.shared_costs.specs.Shared.{AreSharedCosts}

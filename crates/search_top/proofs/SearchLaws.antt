@@ -1,7 +1,7 @@
 -- What the status of an answer says of the answer.
 use Rattle.std.proofs.Common.{◌≡◌, ◌≢◌, ap}
-use Rattle.answer_edge.specs.declared.status.Status.TheVariants.{ReadFault, WriteFault}
-use Rattle.answer_edge.proofs.StatusLaws.{told-status as refusal-status, read-alone}
+use Rattle.answer_io.specs.declared.status.Status.TheVariants.{ReadFault, WriteFault}
+use Rattle.answer_io.proofs.StatusLaws.{told-status as refusal-status, read-alone}
 use Rattle.solve_report.specs.declared.answer.Answer.TheVariants as answers
 use Rattle.search_top.specs.Searching.{GoesWell}
 use Rattle.search_top.specs.Showing.{status_of_ending, search_status_of}

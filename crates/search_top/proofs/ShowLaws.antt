@@ -1,10 +1,10 @@
 -- What follows from how an answer was shown.
 use Rattle.std.proofs.Common.{◌≡◌, ◌≢◌, ℕ, ◌⊎◌, sym, subst, ◌∙◌, inl, inr}
 use Rattle.dcop_edge.specs.Faults.{Rose}
-use Rattle.answer_edge.specs.declared.status.Status.{Status}
-use Rattle.answer_edge.specs.declared.status.Status.TheVariants.{ReadFault, WriteFault, NoMemory}
-use Rattle.answer_edge.specs.Output.{SinkState}
-use Rattle.answer_edge.specs.Showing.{StaysUnless}
+use Rattle.answer_io.specs.declared.status.Status.{Status}
+use Rattle.answer_io.specs.declared.status.Status.TheVariants.{ReadFault, WriteFault, NoMemory}
+use Rattle.answer_io.specs.Output.{SinkState}
+use Rattle.answer_io.specs.Showing.{StaysUnless}
 use Rattle.search_top.specs.Showing.{IsShown, IsCut, Shows, search_status_of}
 use Rattle.search_top.specs.declared.answer.SearchAnswer.{SearchAnswer}
 use Rattle.search_top.proofs.SearchLaws.{told-status}

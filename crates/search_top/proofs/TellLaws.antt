@@ -10,7 +10,7 @@ use Rattle.dcop_optimum.proofs.PlaceLaws.{zeros_within}
 use Rattle.dcop_optimum.proofs.TurnLaws.{sum_to_top}
 use Rattle.problem_text.specs.declared.file.Goal.{Goal}
 use Rattle.problem_text.specs.declared.file.Goal.TheVariants.{Min, Max}
-use Rattle.problem_solved.specs.Goal.{solved, IsAtMostWorse}
+use Rattle.minimised_problem.specs.Goal.{solved, IsAtMostWorse}
 use Rattle.bound_search.specs.Known.{IsBelow}
 use Rattle.search_top.specs.Outcomes.{IsOutcome, TellsOutcome}
 use Rattle.search_top.specs.Report.{IsBetterSum, IsFoundIn, IsBoundOf, HasSpent, EndsBy, most_visited}

@@ -8,9 +8,9 @@ use Rattle.solve_report.specs.AnswerText.{HasText}
 use Rattle.solve_words.specs.Kinds.{number_of_words}
 use Rattle.solve_words.specs.declared.fault.WordFault.{WordFault}
 use Rattle.solve_words.specs.declared.fault.WordFault.TheVariants as words
-use Rattle.answer_edge.specs.Input.{Input, Unread, Broken, TooLong, Whole}
-use Rattle.solve_inputs.specs.Inputs.{input_read}
-use Rattle.solve_inputs.specs.Told.{Told}
+use Rattle.answer_io.specs.Input.{Input, Unread, Broken, TooLong, Whole}
+use Rattle.answer_io.specs.Inputs.{input_read}
+use Rattle.answer_io.specs.InputTold.{Told}
 use Rattle.search_top.specs.Report.{IsSearchReport}
 use Rattle.search_top.specs.Text.{AreTold}
 use Rattle.search_top.specs.Words.{search_answer_to}

@@ -4,7 +4,7 @@ use Rattle.dcop_base.specs.Problem.{Dcop, IsAssignment, cost}
 use Rattle.dcop_optimum.specs.Goal.{top_of}
 use Rattle.problem_text.specs.declared.file.Goal.{Goal}
 use Rattle.problem_text.specs.declared.file.Goal.TheVariants.{Min, Max}
-use Rattle.problem_solved.specs.Goal.{IsAtMostWorse}
+use Rattle.minimised_problem.specs.Goal.{IsAtMostWorse}
 use Rattle.search_top.specs.Staged.{IsOfStages}
 use Rattle.search_top.specs.declared.words.Asked.{Asked}
 use Rattle.search_top.specs.declared.report.Found.{Found}

@@ -1,12 +1,12 @@
 -- What the top call of `dcop_search` does: it answers, and writes its answer as the top call of `dcop` does.
 use Rattle.std.specs.Prelude.{◌≡◌, ℕ, ◌≤◌, ◌⊎◌, List, length, Ok}
 use Rattle.dcop_base.specs.Limits.{input_limit}
-use Rattle.answer_edge.specs.declared.status.Status.{Status}
-use Rattle.answer_edge.specs.declared.status.Status.TheVariants as statuses
-use Rattle.answer_edge.specs.Input.{Input, SourceState, IsReadFrom}
-use Rattle.answer_edge.specs.Output.{SinkState}
-use Rattle.solve_inputs.specs.Inputs.{input_read}
-use Rattle.solve_inputs.specs.Told.{Told}
+use Rattle.answer_io.specs.declared.status.Status.{Status}
+use Rattle.answer_io.specs.declared.status.Status.TheVariants as statuses
+use Rattle.answer_io.specs.Input.{Input, SourceState, IsReadFrom}
+use Rattle.answer_io.specs.Output.{SinkState}
+use Rattle.answer_io.specs.Inputs.{input_read}
+use Rattle.answer_io.specs.InputTold.{Told}
 use Rattle.search_top.specs.Answering.{IsSearchAnswer}
 use Rattle.search_top.specs.Showing.{IsShown, IsCut}
 use Rattle.search_top.specs.Words.{search_answer_to}

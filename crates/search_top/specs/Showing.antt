@@ -3,10 +3,10 @@ use Rattle.std.specs.Prelude.{◌≡◌, ℕ, ◌≤◌, ◌⊎◌, true, List}
 use Rattle.dcop_edge.specs.Faults.{Rose}
 use Rattle.dcop_edge.specs.Sink.{Adds}
 use Rattle.solve_report.specs.AnswerText.{answer_text}
-use Rattle.answer_edge.specs.declared.status.Status.{Status}
-use Rattle.answer_edge.specs.declared.status.Status.TheVariants as statuses
-use Rattle.answer_edge.specs.Output.{SinkState, AddsPrefix}
-use Rattle.answer_edge.specs.Statuses.{status_of}
+use Rattle.answer_io.specs.declared.status.Status.{Status}
+use Rattle.answer_io.specs.declared.status.Status.TheVariants as statuses
+use Rattle.answer_io.specs.Output.{SinkState, AddsPrefix}
+use Rattle.answer_io.specs.Statuses.{status_of}
 use Rattle.search_top.specs.Text.{search_text}
 use Rattle.search_top.specs.declared.answer.SearchAnswer.{SearchAnswer}
 use Rattle.search_top.specs.declared.answer.SearchAnswer.TheVariants.{Searched, Refused}

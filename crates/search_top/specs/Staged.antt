@@ -3,7 +3,7 @@ use Rattle.std.specs.Prelude.{◌≡◌, ℕ, List, option_map}
 use Rattle.dcop_base.specs.Problem.{Dcop}
 use Rattle.dcop_optimum.specs.Goal.{top_of}
 use Rattle.problem_text.specs.declared.file.Goal.{Goal}
-use Rattle.problem_solved.specs.Goal.{solved}
+use Rattle.minimised_problem.specs.Goal.{solved}
 use Rattle.shared_costs.specs.Shared.{AreSharedCosts}
 use Rattle.shared_costs.specs.declared.shared.SharedCosts.{SharedCosts}
 use Rattle.search_top.specs.Outside.{IsInOrder, AreToldOutside}

@@ -1,8 +1,8 @@
 //! The answer to words and a source.
 
 ghost use Rattle.std.specs.Prelude.{◌≡◌, map, IfOk, OnErr, string_bytes};
-ghost use Rattle.answer_edge.specs.Input.{source_state};
-ghost use Rattle.solve_inputs.specs.Inputs.{input_read};
+ghost use Rattle.answer_io.specs.Input.{source_state};
+ghost use Rattle.answer_io.specs.Inputs.{input_read};
 ghost use Rattle.search_top.specs.Answering.{IsTellable, IsTextAnswer};
 ghost use Rattle.search_top.specs.Searching.{IsAnswered};
 ghost use Rattle.search_top.specs.Words.{IsServed};
@@ -10,11 +10,12 @@ ghost use Rattle.search_top.specs.Words.{IsServed};
 use crate::answer::SearchAnswer;
 use crate::reporting::report_on;
 use crate::words::{Asked, read_search_words};
-use answer_edge::{ReadEnd, fault_answer, read_all, words_answer};
+use answer_io::{
+    InputFault, ReadEnd, fault_answer, read_all, read_input, wcsp_answer, words_answer,
+};
 use dcop_base::NoMemory;
 use dcop_edge::Source;
 use problem_text::TextKind;
-use solve_inputs::{InputFault, read_input, wcsp_answer};
 use solve_report::Answer;
 use solve_words::WordFault;
 use std::alloc::Global;

@@ -18,7 +18,7 @@ mod words;
 mod writing;
 
 pub use answer::SearchAnswer;
-pub use answer_edge::Status;
+pub use answer_io::Status;
 pub use report::{Found, SearchEnding, SearchReport};
 pub use top::search;
 pub use words::Asked;

@@ -13,10 +13,9 @@ use crate::report::{Found, SearchReport};
 use crate::turning::search_report;
 use crate::words::Asked;
 use dcop_base::{NoMemory, Val, ValList, VarId, problem_is_whole};
-use problem_order::{reordered, reordered_files_cost_the_same};
+use problem_order::{reordered, reordered_files_cost_the_same, search_order};
 use problem_text::ProblemFile;
 use std::alloc::Global;
-use variable_order::search_order;
 
 /// The report of a search on a file. The variables are put into the order of the search, and what
 /// is found is reported in their own order.

@@ -1,7 +1,7 @@
 //! Writing an answer of `dcop_search`.
 
 ghost use Rattle.std.specs.Prelude.{◌≡◌, IfSome};
-ghost use Rattle.answer_edge.specs.Output.{sink_state};
+ghost use Rattle.answer_io.specs.Output.{sink_state};
 ghost use Rattle.search_top.specs.Answering.{IsTellable};
 ghost use Rattle.search_top.specs.Showing.{Shows, status_of_ending};
 ghost use Rattle.search_top.specs.Text.{AreTold};
@@ -10,7 +10,7 @@ ghost use Rattle.search_top.specs.declared.answer.SearchAnswer.TheVariants.{Sear
 use crate::answer::SearchAnswer;
 use crate::report::{SearchEnding, SearchReport};
 use crate::writing::write_search;
-use answer_edge::{Status, show, write_all};
+use answer_io::{Status, show, write_all};
 use dcop_edge::Sink;
 use problem_text::ProblemFile;
 use std::alloc::Global;

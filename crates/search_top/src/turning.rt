@@ -2,7 +2,7 @@
 
 ghost use Rattle.std.specs.Prelude.{◌≡◌, IfOk, option_map};
 ghost use Rattle.dcop_optimum.specs.Goal.{top_of};
-ghost use Rattle.problem_solved.specs.Goal.{solved};
+ghost use Rattle.minimised_problem.specs.Goal.{solved};
 ghost use Rattle.search_top.specs.Outcomes.{IsOutcome, TellsOutcome};
 ghost use Rattle.search_top.specs.Turning.{told_sum, found_told, ending_told};
 ghost use Rattle.search_top.specs.Words.{IsServed};
@@ -13,7 +13,7 @@ use crate::words::Asked;
 use bound_search::Known;
 use dcop_base::{NoMemory, Problem};
 use dcop_optimum::top_sum;
-use problem_solved::ProblemSolved;
+use minimised_problem::ProblemSolved;
 use problem_text::{Goal, ProblemFile};
 use std::alloc::Global;
 

@@ -3,13 +3,14 @@
 //!
 //! [`serve_all`] does all of its work, with a [`SolveMaker`] for each session. It ends with the
 //! code of the status. If the system refuses to give it its arguments, it prints nothing and ends
-//! with code 12.
+//! with code 12. It is a crate of its own, since only a program makes the sources and sinks of the
+//! operating system.
 #![tactic(auto)]
 
 use dcop_edge::{OpenGate, StdSink};
-use serve_edge::StdListener;
+use serve_clients::StdListener;
+use serve_replies::SolveMaker;
 use serve_top::serve_all;
-use solve_maker::SolveMaker;
 use std::process::ExitCode;
 use std::rt::Env;
 use std::{env, io};

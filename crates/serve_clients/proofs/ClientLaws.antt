@@ -5,7 +5,7 @@ use Rattle.std.proofs.lemmas.List.Elements.{All-nil, All-push, All-head, All-tai
 use Rattle.solve_serve.specs.declared.peers.Peer.{Peer}
 use Rattle.solve_serve.specs.declared.end.SessionEnd.{SessionEnd}
 use Rattle.solve_serve.specs.Peers.{IsFresh}
-use Rattle.serve_edge.specs.Listener.{first_of, last_of}
+use Rattle.serve_clients.specs.Listener.{first_of, last_of}
 use Rattle.serve_clients.specs.Sessions.{total, all_before, all_behind}
 use Rattle.serve_clients.specs.Clients.{connection, end_of, looks_of, look_parts_of, miss_parts_of, IsNew}
 use Rattle.serve_clients.proofs.ConnectionLaws.{all_before_none, all_before_more, all_behind_more}

@@ -1,6 +1,6 @@
 -- Connections that wait, and those that were given back.
 use Rattle.std.proofs.Common.{◌≡◌, List, [], ◌∷◌, ◌++◌, Option, Some, None, Result, Ok, Err, OnErr, refl, sym, ap, append_assoc, append-nil}
-use Rattle.serve_edge.specs.Listener.{first_of, last_of}
+use Rattle.serve_clients.specs.Listener.{first_of, last_of}
 use Rattle.serve_clients.specs.Sessions.{all_before, all_behind, AreReturned}
 
 pub all_before_none : {C : Type 0} (w : Option (List C)) → all_before [] w ≡ w

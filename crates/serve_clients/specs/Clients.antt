@@ -4,8 +4,8 @@ use Rattle.dcop_edge.specs.Faults.{Rose}
 use Rattle.solve_serve.specs.declared.peers.Peer.{Peer}
 use Rattle.solve_serve.specs.declared.end.SessionEnd.{SessionEnd}
 use Rattle.solve_serve.specs.declared.end.SessionEnd.TheVariants.{Memory}
-use Rattle.serve_edge.specs.declared.fault.ListenFault.{ListenFault}
-use Rattle.serve_edge.specs.declared.fault.ListenFault.TheVariants as listens
+use Rattle.serve_clients.specs.declared.listen_fault.ListenFault.{ListenFault}
+use Rattle.serve_clients.specs.declared.listen_fault.ListenFault.TheVariants as listens
 use Rattle.serve_clients.specs.declared.fault.ServeFault.{ServeFault}
 use Rattle.serve_clients.specs.declared.fault.ServeFault.TheVariants as faults
 

@@ -1,14 +1,15 @@
 //! Accepting connections.
 
 ghost use Rattle.std.specs.Prelude.{◌≡◌, ◌≤◌, ◌<◌, ◌+◌, All, map, length, IfOk, OnOk, OnErr};
-ghost use Rattle.serve_edge.specs.Listener.{HasListenCause, first_of};
+ghost use Rattle.serve_clients.specs.Listener.{HasListenCause, first_of};
 ghost use Rattle.serve_clients.specs.Sessions.{all_before, AreReturned};
 ghost use Rattle.serve_clients.specs.Clients.{HasServeCause, connection, IsNew};
 
 use crate::fault::ServeFault;
 use crate::give::return_all;
+use crate::listen_fault::ListenFault;
+use crate::listener::Listener;
 use reply_cache::{FreshMaker, LookShare};
-use serve_edge::{ListenFault, Listener};
 use solve_serve::{Peer, PeerList};
 use std::alloc::Global;
 use std::sync::ledger::Ledger;

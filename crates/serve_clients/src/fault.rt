@@ -1,8 +1,8 @@
 //! Why clients are not served.
 
+use crate::listen_fault::ListenFault;
 use dcop_base::NoMemory;
 use dcop_edge::Failed;
-use serve_edge::ListenFault;
 use std::alloc::AllocError;
 
 /// Why clients are not served.

@@ -1,12 +1,12 @@
 //! Giving connections back.
 
 ghost use Rattle.std.specs.Prelude.{◌≡◌, ◌≤◌, ◌<◌, ◌+◌, ◌++◌, ◌∷◌, [], All, map, length, IsSome, vec_len, vec_capacity};
-ghost use Rattle.serve_edge.specs.Listener.{last_of};
+ghost use Rattle.serve_clients.specs.Listener.{last_of};
 ghost use Rattle.serve_clients.specs.Sessions.{total, all_behind};
 ghost use Rattle.serve_clients.specs.Clients.{connection, end_of, looks_of, look_parts_of, miss_parts_of};
 
+use crate::listener::Listener;
 use reply_cache::LookShare;
-use serve_edge::Listener;
 use solve_serve::{Peer, PeerList, SessionEnd};
 use std::collections::VecDeque;
 use std::sync::ledger::Ledger;

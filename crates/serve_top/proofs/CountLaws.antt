@@ -7,7 +7,7 @@ use Rattle.solve_serve.specs.Session.{Outside, served_by, HasServed}
 use Rattle.solve_serve.specs.declared.end.SessionEnd.{SessionEnd}
 use Rattle.solve_serve.specs.declared.end.SessionEnd.TheVariants as ends
 use Rattle.serve_clients.specs.Sessions.{Session, WereServed, HaveServed}
-use Rattle.serve_words.specs.Text.{served_in}
+use Rattle.serve_top.specs.Text.{served_in}
 
 -- a session serves at most its limit
 served_few : (is_reply : List ℕ → List ℕ → Type 0) (went : List Step → Type 0) (end : SessionEnd) (before after : Outside) → HasServed is_reply went end before after → served_by end ≤ session_limit

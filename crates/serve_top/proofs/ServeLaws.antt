@@ -1,11 +1,11 @@
 -- What follows from how an answer was shown.
 use Rattle.std.proofs.Common.{◌≡◌, ◌≢◌, ℕ, ◌<◌, ◌⊎◌, inl, inr, List, Option, Result, Ok, Err, IsOk, IsErr, refl, sym, ap, ◌∙◌, arith}
 use Rattle.dcop_edge.specs.Faults.{Rose}
-use Rattle.serve_words.specs.Words.{words_read}
-use Rattle.serve_words.specs.declared.words.ServeWords.{ServeWords}
-use Rattle.serve_words.specs.declared.words.Refused.{Refused}
-use Rattle.serve_words.specs.declared.answer.ServeAnswer.{ServeAnswer}
-use Rattle.serve_words.specs.declared.answer.ServeAnswer.TheVariants as answers
+use Rattle.serve_top.specs.Words.{words_read}
+use Rattle.serve_top.specs.declared.words.ServeWords.{ServeWords}
+use Rattle.serve_top.specs.declared.words.Refused.{Refused}
+use Rattle.serve_top.specs.declared.answer.ServeAnswer.{ServeAnswer}
+use Rattle.serve_top.specs.declared.answer.ServeAnswer.TheVariants as answers
 use Rattle.serve_top.specs.Serving.{status_of, Listening, Sinking, IsServeAnswer, Shows, HasAnswered}
 use Rattle.serve_top.specs.declared.status.ServeStatus.{ServeStatus}
 use Rattle.serve_top.specs.declared.status.ServeStatus.TheVariants.{Solved, BadWords, WriteFault, NoMemory, LinkFault}

@@ -1,1 +1,4 @@
 pub mod Serving
+pub mod Words
+pub mod Text
+pub mod Told

@@ -2,12 +2,12 @@
 use Rattle.std.specs.Prelude.{◌≡◌, ℕ, ◌≤◌, ◌⊎◌, Bool, true, List, length, take, Option, Result, Ok, Err}
 use Rattle.dcop_edge.specs.Faults.{Rose}
 use Rattle.dcop_edge.specs.Sink.{Adds}
-use Rattle.serve_words.specs.Words.{words_read}
-use Rattle.serve_words.specs.Text.{answer_text}
-use Rattle.serve_words.specs.declared.words.ServeWords.{ServeWords}
-use Rattle.serve_words.specs.declared.words.Refused.{Refused}
-use Rattle.serve_words.specs.declared.answer.ServeAnswer.{ServeAnswer}
-use Rattle.serve_words.specs.declared.answer.ServeAnswer.TheVariants as answers
+use Rattle.serve_top.specs.Words.{words_read}
+use Rattle.serve_top.specs.Text.{answer_text}
+use Rattle.serve_top.specs.declared.words.ServeWords.{ServeWords}
+use Rattle.serve_top.specs.declared.words.Refused.{Refused}
+use Rattle.serve_top.specs.declared.answer.ServeAnswer.{ServeAnswer}
+use Rattle.serve_top.specs.declared.answer.ServeAnswer.TheVariants as answers
 use Rattle.serve_clients.specs.Sessions.{HaveServed}
 use Rattle.serve_top.specs.declared.status.ServeStatus.{ServeStatus}
 use Rattle.serve_top.specs.declared.status.ServeStatus.TheVariants.{Solved, BadWords, WriteFault, NoMemory, LinkFault}

@@ -2,17 +2,17 @@
 
 ghost use Rattle.std.specs.Prelude.{◌≡◌, ◌≢◌, ◌<◌, ◌⊎◌, map, string_bytes, IfOk, IsOk, IsErr};
 ghost use Rattle.dcop_edge.specs.Faults.{Rose};
-ghost use Rattle.serve_words.specs.Words.{IsInRange, words_read};
-ghost use Rattle.serve_words.specs.Told.{HasText};
+ghost use Rattle.serve_top.specs.Words.{IsInRange, words_read};
+ghost use Rattle.serve_top.specs.Told.{HasText};
 ghost use Rattle.serve_top.specs.Serving.{listening, sinking, IsServeAnswer, AnswersServe, Shows, HasAnswered};
 
+use crate::answer::{ServeAnswer, text_of};
 use crate::status::ServeStatus;
+use crate::words::{ServeWords, read_words};
 use dcop_base::NoMemory;
 use dcop_edge::{Gate, Sink};
 use reply_cache::FreshMaker;
-use serve_clients::{Plan, ServeFault, serve_clients};
-use serve_edge::Listener;
-use serve_words::{ServeAnswer, ServeWords, read_words, text_of};
+use serve_clients::{Listener, Plan, ServeFault, serve_clients};
 use solve_serve::write_all;
 use std::alloc::Global;
 use std::marker::Sync;

@@ -3,7 +3,7 @@
 ghost use Rattle.std.specs.Prelude.{◌≡◌};
 ghost use Rattle.serve_top.specs.Serving.{status_of, code_of};
 
-use serve_words::ServeAnswer;
+use crate::answer::ServeAnswer;
 
 /// How a call of the server ended.
 #[derive(Clone, Copy, Debug, PartialEq, Eq)]

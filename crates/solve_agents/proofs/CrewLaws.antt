@@ -22,11 +22,11 @@ use Rattle.protocol_steps.proofs.EventLaws.{begins}
 use Rattle.protocol_steps.specs.Effect.{deliveries}
 use Rattle.protocol_steps.specs.RunEnds.{IsRunEnd}
 use Rattle.protocol_steps.specs.Outcomes.{HaveRun}
-use Rattle.worker_runs.specs.Cells.{CellState}
-use Rattle.worker_runs.specs.CellRounds.{total}
-use Rattle.worker_runs.specs.CellRuns.{journals_of, MakesARun, IsRunOfCells, IsCellOutcome}
-use Rattle.worker_runs.specs.Merges.{AscendsAbove, IsMerge, JournalsMerge, entries_in, events_in}
-use Rattle.worker_runs.specs.Laws.{CellsTellOutcomes}
+use Rattle.worker_laws.specs.Cells.{CellState}
+use Rattle.worker_laws.specs.CellRounds.{total}
+use Rattle.worker_laws.specs.CellRuns.{journals_of, MakesARun, IsRunOfCells, IsCellOutcome}
+use Rattle.worker_laws.specs.Merges.{AscendsAbove, IsMerge, JournalsMerge, entries_in, events_in}
+use Rattle.worker_laws.specs.WorkerLaws.{CellsTellOutcomes}
 use Rattle.run_log.specs.declared.log.LogEvent.{LogEvent}
 use Rattle.run_log.specs.Laws.{MergedStampsAreRight}
 use Rattle.run_log.specs.Logs.{entry_of, entries_of, events_of}

@@ -10,12 +10,12 @@ use Rattle.pseudotree.specs.declared.width.Wide.{Wide}
 use Rattle.protocol_steps.specs.View.{View}
 use Rattle.delivery_core.specs.declared.start.Start.{Start}
 use Rattle.delivery_core.specs.Agents.{agents_of, IsStartFor}
-use Rattle.worker_runs.specs.Cells.{CellState}
-use Rattle.worker_runs.specs.NodeRounds.{home}
-use Rattle.node_runs.specs.Wires.{Wire}
+use Rattle.worker_laws.specs.Cells.{CellState}
+use Rattle.worker_laws.specs.OneNode.{home}
+use Rattle.worker_laws.specs.Wires.{Wire}
 use Rattle.agent_links.specs.Links.{pairs_to}
-use Rattle.agent_seats.specs.Seats.{all_neighbours}
-use Rattle.wire_edge.specs.Wire.{Told}
+use Rattle.agent_links.specs.Seats.{all_neighbours}
+use Rattle.wire_pump.specs.Wire.{Told}
 use Rattle.tcp_links.specs.declared.fault.Difference.{Difference}
 use Rattle.tcp_links.specs.declared.fault.NodeFault.{NodeFault}
 use Rattle.tcp_links.specs.declared.fault.NodeFault.TheVariants.{Failed, Differs, NoMemory}
@@ -23,7 +23,7 @@ use Rattle.tcp_links.specs.declared.plan.NodePlan.{NodePlan}
 use Rattle.tcp_links.specs.Plans.{IsBetween, AreOrdered, IsHonest}
 use Rattle.tcp_links.specs.Ends.{IsDifference, HasDifference, DiffersOver}
 use Rattle.tcp_links.specs.Faults.{IsNoDifference, HasNodeCause}
-use Rattle.letter_wires.specs.Honest.{AreHonest}
+use Rattle.node_exchange.specs.Honest.{AreHonest}
 use Rattle.node_seats.specs.Links.{node_in, KeepsPairs}
 use Rattle.node_seats.specs.Seats.{IsSameFrame}
 use Rattle.solve_methods.specs.Dpop.{wide_in}

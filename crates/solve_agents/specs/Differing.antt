@@ -4,12 +4,12 @@ use Rattle.std.specs.List.{All}
 use Rattle.dcop_base.specs.Problem.{Dcop}
 use Rattle.delivery_core.specs.declared.start.Start.{Start}
 use Rattle.delivery_core.specs.Agents.{agents_of, IsStartFor}
-use Rattle.worker_runs.specs.Cells.{CellState}
-use Rattle.worker_runs.specs.CellRounds.{AreStarted}
-use Rattle.worker_runs.specs.NodeRounds.{home}
-use Rattle.node_runs.specs.Wires.{Wire}
+use Rattle.worker_laws.specs.Cells.{CellState}
+use Rattle.worker_laws.specs.CellRounds.{AreStarted}
+use Rattle.worker_laws.specs.OneNode.{home}
+use Rattle.worker_laws.specs.Wires.{Wire}
 use Rattle.agent_links.specs.Links.{pairs_to}
-use Rattle.agent_seats.specs.Seats.{all_neighbours}
+use Rattle.agent_links.specs.Seats.{all_neighbours}
 use Rattle.tcp_links.specs.declared.fault.Difference.{Difference}
 use Rattle.tcp_links.specs.Plans.{IsBetween, AreOrdered}
 use Rattle.tcp_links.specs.Ends.{IsDifference}

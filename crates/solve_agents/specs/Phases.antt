@@ -5,7 +5,7 @@ use Rattle.pseudotree.specs.DepthFirst.{dfs}
 use Rattle.pseudotree.specs.Pseudotree.{RootedTree}
 use Rattle.delivery_core.specs.declared.start.Start.{Start}
 use Rattle.delivery_core.specs.declared.start.Start.TheVariants.{Token, Dpop, Adopt}
-use Rattle.tree_search.specs.Found.{token_deliveries}
+use Rattle.minimised_problem.specs.Found.{token_deliveries}
 use Rattle.solve_methods.specs.Auto.{IsWide}
 use Rattle.solve_methods.specs.Dpop.{dpop_deliveries, wide_in}
 

@@ -4,7 +4,7 @@ use Rattle.std.specs.Prelude.{◌≡◌, ℕ, ◌<◌, ◌≤◌, Result, Ok, Er
 use Rattle.dcop_edge.specs.Faults.{Rose}
 use Rattle.dcop_base.specs.Problem.{Dcop}
 use Rattle.delivery_core.specs.declared.start.Start.{Start}
-use Rattle.wire_edge.specs.Wire.{Told}
+use Rattle.wire_pump.specs.Wire.{Told}
 use Rattle.tcp_links.specs.declared.fault.NodeFault.{NodeFault}
 use Rattle.tcp_links.specs.declared.fault.NodeFault.TheVariants.{Failed, Differs, NoMemory}
 use Rattle.tcp_links.specs.Plans.{IsNewPlan, IsHonest}

@@ -3,32 +3,31 @@
 ghost use Rattle.std.specs.Prelude.{◌≡◌, ◌<◌, ◌≤◌, ℕ, length, is_some, IfOk, IfSome};
 ghost use Rattle.dcop_base.specs.Limits.{budget_limit, variable_limit};
 ghost use Rattle.protocol_steps.specs.JournalStamps.{journal_at};
-ghost use Rattle.worker_runs.specs.CellRounds.{total};
-ghost use Rattle.worker_runs.specs.CellRuns.{journals_of, IsCellOutcome};
-ghost use Rattle.worker_runs.specs.Merges.{AscendsAbove, IsMerge};
+ghost use Rattle.worker_laws.specs.CellRounds.{total};
+ghost use Rattle.worker_laws.specs.CellRuns.{journals_of, IsCellOutcome};
+ghost use Rattle.worker_laws.specs.Merges.{AscendsAbove, IsMerge};
 ghost use Rattle.agent_workers.specs.Joined.{states_of};
 ghost use Rattle.agent_links.specs.Ready.{IsNewCell, deliveries_in};
 ghost use Rattle.run_log.specs.Logs.{entries_of};
 ghost use Rattle.delivery_core.specs.Agents.{IsStartFor, agents_of};
-ghost use Rattle.problem_solved.specs.Goal.{problem_solved};
+ghost use Rattle.minimised_problem.specs.Goal.{problem_solved};
 ghost use Rattle.pseudotree.specs.DepthFirst.{dfs};
 ghost use Rattle.pseudotree.specs.Pseudotree.{IsPseudotreeOf};
-ghost use Rattle.tree_search.specs.Found.{IsFound};
+ghost use Rattle.minimised_problem.specs.Found.{IsFound};
 ghost use Rattle.solve_methods.specs.Kept.{HaveLogged};
 ghost use Rattle.protocol_steps.specs.Outcomes.{HaveRun};
-ghost use Rattle.agent_seats.specs.Kinds.{view_of};
+ghost use Rattle.agent_links.specs.Kinds.{view_of};
 
 use crate::crew::Crew;
 use crate::logging::log_if;
 use agent_cells::Cell;
-use agent_links::{make_each, outcome_of};
-use agent_seats::{Agent, Seat, seats_of};
+use agent_links::{Agent, Seat, make_each, outcome_of, seats_of};
 use agent_workers::run;
 use dcop_base::{NoMemory, Problem, problem_is_whole};
 use dcop_edge::Gate;
 use delivery_core::Start;
 use delivery_turns::play_out_logged;
-use problem_solved::ProblemSolved;
+use minimised_problem::{Found, ProblemSolved, search_deliveries, tree_found};
 use problem_text::ProblemFile;
 use protocol_steps::{Outcome, RunEnd};
 use pseudotree::Tree;
@@ -36,8 +35,7 @@ use run_log::merged_stamps_are_right;
 use solve_methods::Logged;
 use std::alloc::Global;
 use std::thread::Threads;
-use tree_search::{Found, search_deliveries, tree_found};
-use worker_runs::{cells_tell_outcomes, journals_merge};
+use worker_laws::{cells_tell_outcomes, journals_merge};
 
 /// Runs the agents of a problem from this start, by workers, in rounds, until all have ended or
 /// `budget` messages are delivered.

@@ -2,9 +2,9 @@
 
 ghost use Rattle.std.specs.Prelude.{◌≡◌, length, is_some, IfOk};
 ghost use Rattle.pseudotree.specs.Width.{IsNarrow};
-ghost use Rattle.problem_solved.specs.Goal.{problem_solved};
+ghost use Rattle.minimised_problem.specs.Goal.{problem_solved};
 ghost use Rattle.solve_methods.specs.Dpop.{GivesChosen, HaveAgreed};
-ghost use Rattle.tree_search.specs.Found.{IsFound};
+ghost use Rattle.minimised_problem.specs.Found.{IsFound};
 ghost use Rattle.solve_agents.specs.Phases.{IsDpopPhase, IsPhaseByDpop};
 ghost use Rattle.solve_agents.specs.Wiring.{nodes_in, IsWiringFor, IsHonestWiring, MayFail};
 
@@ -13,7 +13,7 @@ use crate::nodes::{Wiring, find_over, run_over};
 use dcop_base::Problem;
 use dcop_edge::Gate;
 use delivery_core::Start;
-use problem_solved::ProblemSolved;
+use minimised_problem::{Found, ProblemSolved};
 use problem_text::ProblemFile;
 use pseudotree::widths;
 use solve_methods::{Choice, Chosen, choice_deliveries, chosen_by, node_rows_if};
@@ -24,8 +24,7 @@ use std::sync::Wait;
 use std::thread::Threads;
 use std::time::Clock;
 use tcp_links::NodeFault;
-use tree_search::Found;
-use wire_edge::Dialer;
+use wire_pump::Dialer;
 
 /// The choice by DPOP of the agents of the problem solved for a file. They first search for its
 /// depth-first tree. If a certificate is requested, the choice includes their tables.

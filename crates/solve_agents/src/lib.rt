@@ -5,7 +5,7 @@
 //! one worker runs the agents in one node, they are played on the calling thread, without cells and
 //! links, whether a log is requested or not.
 //!
-//! It builds on `agent_seats` and `agent_workers` for one node, on `node_seats` and `tcp_links` for
+//! It builds on `agent_links` and `agent_workers` for one node, on `node_seats` and `tcp_links` for
 //! several, on `delivery_turns` for one thread, and on `solve_methods` for the results.
 #![tactic(auto)]
 

@@ -3,8 +3,8 @@
 ghost use Rattle.std.specs.Prelude.{◌≡◌, ℕ, ◌≤◌, length, is_some, map, IfOk, IfSome};
 ghost use Rattle.dcop_base.specs.Limits.{variable_limit};
 ghost use Rattle.protocol_steps.specs.JournalStamps.{journal_at};
-ghost use Rattle.worker_runs.specs.CellRuns.{journals_of};
-ghost use Rattle.worker_runs.specs.Merges.{AscendsAbove, IsMerge};
+ghost use Rattle.worker_laws.specs.CellRuns.{journals_of};
+ghost use Rattle.worker_laws.specs.Merges.{AscendsAbove, IsMerge};
 ghost use Rattle.agent_cells.specs.State.{state_of};
 ghost use Rattle.agent_workers.specs.Joined.{states_of};
 ghost use Rattle.run_log.specs.Logs.{entries_of};

@@ -3,9 +3,9 @@
 ghost use Rattle.std.specs.Prelude.{◌≡◌, ◌<◌, ◌≤◌, length, IfOk, OnOk};
 ghost use Rattle.dcop_base.specs.Limits.{budget_limit};
 ghost use Rattle.agent_links.specs.Ready.{IsNewCell};
-ghost use Rattle.agent_seats.specs.Kinds.{view_of};
+ghost use Rattle.agent_links.specs.Kinds.{view_of};
 ghost use Rattle.delivery_core.specs.Agents.{agents_of, IsStartFor};
-ghost use Rattle.tree_search.specs.Found.{IsFound};
+ghost use Rattle.minimised_problem.specs.Found.{IsFound};
 ghost use Rattle.solve_methods.specs.Kept.{HaveLogged};
 ghost use Rattle.tcp_links.specs.Plans.{IsNewPlan, IsHonest};
 ghost use Rattle.solve_agents.specs.Phases.{IsNoPhase, IsPhase, IsSearchPhase};
@@ -14,11 +14,11 @@ ghost use Rattle.solve_agents.specs.Wiring.{nodes_in, IsWiringFor, IsHonestWirin
 use crate::agents::{logged_of, run_logged};
 use crate::crew::Crew;
 use agent_cells::Cell;
-use agent_links::make_each;
-use agent_seats::{Agent, Seat};
+use agent_links::{Agent, Seat, make_each};
 use dcop_base::{NoMemory, Problem, problem_is_whole};
 use dcop_edge::Gate;
 use delivery_core::Start;
+use minimised_problem::{Found, search_deliveries, tree_found};
 use node_seats::seats_over;
 use run_log::merged_stamps_are_right;
 use solve_methods::Logged;
@@ -29,9 +29,8 @@ use std::sync::Wait;
 use std::thread::Threads;
 use std::time::Clock;
 use tcp_links::{NodeFault, NodePlan, run_nodes};
-use tree_search::{Found, search_deliveries, tree_found};
-use wire_edge::{DialFault, Dialer, Wire};
-use worker_runs::{cells_tell_outcomes, journals_merge};
+use wire_pump::{DialFault, Dialer, Wire};
+use worker_laws::{cells_tell_outcomes, journals_merge};
 
 /// How the agents of a problem are connected.
 #[derive(Drop)]

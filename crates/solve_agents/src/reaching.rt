@@ -2,8 +2,8 @@
 
 ghost use Rattle.std.specs.Prelude.{◌≡◌, ◌≤◌, length, IfOk};
 ghost use Rattle.dcop_base.specs.Limits.{amount_limit, budget_limit};
-ghost use Rattle.problem_solved.specs.Goal.{problem_solved};
-ghost use Rattle.tree_search.specs.Found.{IsFound};
+ghost use Rattle.minimised_problem.specs.Goal.{problem_solved};
+ghost use Rattle.minimised_problem.specs.Found.{IsFound};
 ghost use Rattle.solve_methods.specs.Reached.{HaveReached};
 ghost use Rattle.solve_agents.specs.Phases.{IsAdoptPhase, IsPhaseByAdopt};
 ghost use Rattle.solve_agents.specs.Wiring.{nodes_in, IsWiringFor, IsHonestWiring, MayFail};
@@ -13,7 +13,7 @@ use crate::nodes::{Wiring, find_over, run_over};
 use dcop_base::Problem;
 use dcop_edge::Gate;
 use delivery_core::Start;
-use problem_solved::ProblemSolved;
+use minimised_problem::{Found, ProblemSolved};
 use problem_text::ProblemFile;
 use solve_methods::{Asked, Reached, reached_by};
 use std::alloc::{AllocGlobal, Global};
@@ -23,8 +23,7 @@ use std::sync::Wait;
 use std::thread::Threads;
 use std::time::Clock;
 use tcp_links::NodeFault;
-use tree_search::Found;
-use wire_edge::Dialer;
+use wire_pump::Dialer;
 
 /// What the agents of the problem solved for a file reach by ADOPT on its depth-first tree. They
 /// first search for that tree. If a certificate is requested, the result includes the log of their

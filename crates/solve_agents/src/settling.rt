@@ -2,7 +2,7 @@
 
 ghost use Rattle.std.specs.Prelude.{◌≤◌, length, IfOk};
 ghost use Rattle.dcop_base.specs.Limits.{amount_limit, budget_limit};
-ghost use Rattle.problem_solved.specs.Goal.{problem_solved};
+ghost use Rattle.minimised_problem.specs.Goal.{problem_solved};
 ghost use Rattle.solve_methods.specs.Auto.{GivesSettled};
 ghost use Rattle.solve_agents.specs.Phases.{IsPhaseByAuto};
 ghost use Rattle.solve_agents.specs.Wiring.{nodes_in, IsWiringFor, IsHonestWiring, MayFail};
@@ -13,7 +13,7 @@ use crate::nodes::{Wiring, find_over};
 use crate::reaching::reach_on;
 use dcop_base::Problem;
 use dcop_edge::Gate;
-use problem_solved::ProblemSolved;
+use minimised_problem::ProblemSolved;
 use problem_text::ProblemFile;
 use pseudotree::widths;
 use solve_methods::{Asked, Settled};
@@ -24,7 +24,7 @@ use std::sync::Wait;
 use std::thread::Threads;
 use std::time::Clock;
 use tcp_links::NodeFault;
-use wire_edge::Dialer;
+use wire_pump::Dialer;
 
 /// What the agents of the problem solved for a file reach by auto. They first search for its
 /// depth-first tree. They continue by DPOP if nothing is too wide in it, and by ADOPT otherwise.

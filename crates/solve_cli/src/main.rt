@@ -3,7 +3,8 @@
 //!
 //! [`solve`] does all of its work. Between the nodes of agents it dials sockets on 127.0.0.1. It
 //! ends with the code of the status. If the system refuses to give it its arguments, it prints
-//! nothing and ends with code 12.
+//! nothing and ends with code 12. It is a crate of its own, since only a program makes the sources
+//! and sinks of the operating system.
 #![tactic(auto)]
 
 use dcop_edge::{OpenGate, StdSink, StdSource};

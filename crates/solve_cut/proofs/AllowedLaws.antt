@@ -6,13 +6,13 @@ use Rattle.dcop_base.specs.Problem.{Dcop}
 use Rattle.dcop_base.specs.Whole.{IsProblem}
 use Rattle.dcop_base.proofs.UniqueLaws.{AreJoints-unique}
 use Rattle.pseudotree.specs.DepthFirst.{DepthFirstTreesAreLinked}
-use Rattle.cut_laws.specs.CutSet.{CutSetsAreOne}
+use Rattle.run_laws.specs.CutSet.{CutSetsAreOne}
 use Rattle.cut_dpop.specs.declared.fault.CutFault.{CutFault}
 use Rattle.problem_text.specs.File.{TextFile}
 use Rattle.problem_text.specs.Declarations.{Declared}
 use Rattle.problem_text.specs.Steps.{declared_by}
-use Rattle.problem_solved.specs.Goal.{problem_solved}
-use Rattle.problem_solved.proofs.SolvedLaws.{solved_problem}
+use Rattle.minimised_problem.specs.Goal.{problem_solved}
+use Rattle.minimised_problem.proofs.SolvedLaws.{solved_problem}
 use Rattle.solve_cut.specs.Cut.{IsCutOf, refusal_of, IsCutAnswerBy, IsCutSolved}
 use Rattle.solve_cut.specs.Allowed.{HasAllowedCut, AllowedCutsAreSolved}
 use Rattle.solve_cut.proofs.CutLaws.{one-cut}

@@ -7,8 +7,8 @@ use Rattle.cost_table.specs.Slices.{ones_at}
 use Rattle.cost_table.proofs.ProblemCutLaws.{length-ones_at}
 use Rattle.pseudotree.specs.DepthFirst.{dfs}
 use Rattle.pseudotree.specs.Pseudotree.{IsPseudotree}
-use Rattle.cut_laws.specs.Certificate.{IsCutCertificate}
-use Rattle.cut_laws.specs.Turns.{turn_count}
+use Rattle.run_laws.specs.Certificate.{IsCutCertificate}
+use Rattle.run_laws.specs.Turns.{turn_count}
 use Rattle.cut_dpop.specs.Certificate.{KeptTablesCertify}
 use Rattle.cut_dpop.specs.End.{IsCutEnd}
 use Rattle.cut_dpop.specs.Start.{turn_deliveries}
@@ -24,10 +24,10 @@ use Rattle.certificate_text.specs.declared.report.Ending.TheVariants.{Solved}
 use Rattle.certificate_text.specs.Fits.{FitsUtil, FitsCut}
 use Rattle.certificate_text.specs.Named.{IsNamedUtil, IsNamedCertificate, CanTell}
 use Rattle.certificate_text.specs.Turns.{first_tables}
-use Rattle.problem_solved.specs.Goal.{solved, problem_solved}
-use Rattle.problem_solved.specs.Told.{parents_told}
-use Rattle.problem_solved.specs.Turns.{turn_scopes, turn_cells}
-use Rattle.problem_solved.proofs.SolvedLaws.{solved_sizes}
+use Rattle.minimised_problem.specs.Goal.{solved, problem_solved}
+use Rattle.minimised_problem.specs.Told.{parents_told}
+use Rattle.minimised_problem.specs.Turns.{turn_scopes, turn_cells}
+use Rattle.minimised_problem.proofs.SolvedLaws.{solved_sizes}
 use Rattle.solve_methods.proofs.TellLaws.{CanTell-certified}
 use Rattle.solve_cut.specs.Certified.{IsCutCertified, certificate_if, HasTurns, HasTurnsIf}
 

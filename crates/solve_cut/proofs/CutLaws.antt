@@ -8,9 +8,9 @@ use Rattle.dcop_base.specs.Whole.{IsProblem}
 use Rattle.dcop_base.specs.declared.memory.NoMemory.{NoMemory}
 use Rattle.dcop_optimum.specs.Optimum.{IsOptimum}
 use Rattle.pseudotree.specs.DepthFirst.{dfs, DepthFirstTreesAreLinked}
-use Rattle.cut_laws.specs.CutSet.{CutSetsAreOne, HasOneCutSet}
-use Rattle.cut_laws.specs.Kept.{IsCutAnswer, IsOptimal, CutAnswersAreOptimal}
-use Rattle.cut_laws.specs.Turns.{turn_count}
+use Rattle.run_laws.specs.CutSet.{CutSetsAreOne, HasOneCutSet}
+use Rattle.run_laws.specs.Kept.{IsCutAnswer, IsOptimal, CutAnswersAreOptimal}
+use Rattle.run_laws.specs.Turns.{turn_count}
 use Rattle.cut_dpop.specs.Certificate.{KeptTablesCertify}
 use Rattle.cut_dpop.specs.End.{IsCutEnd, IsRefused}
 use Rattle.cut_dpop.specs.Start.{turn_deliveries}
@@ -25,8 +25,8 @@ use Rattle.problem_text.specs.declared.file.Goal.TheVariants.{Min, Max}
 use Rattle.certificate_text.specs.declared.report.Report.{Report}
 use Rattle.certificate_text.specs.declared.report.Ending.TheVariants.{Solved}
 use Rattle.certificate_text.specs.declared.report.Method.TheVariants.{Cut}
-use Rattle.problem_solved.specs.Goal.{solved, problem_solved, IsBestSum}
-use Rattle.problem_solved.proofs.SolvedLaws.{solved_problem}
+use Rattle.minimised_problem.specs.Goal.{solved, problem_solved, IsBestSum}
+use Rattle.minimised_problem.proofs.SolvedLaws.{solved_problem}
 use Rattle.solve_report.specs.declared.answer.Answer.{Answer}
 use Rattle.solve_report.specs.declared.answer.Answer.TheVariants as answers
 use Rattle.solve_methods.specs.Goal.{IsRightReport}

@@ -1,7 +1,7 @@
 -- The certificate of a report of a cut.
 use Rattle.std.specs.Prelude.{◌≡◌, ℕ, Bool, true, false, List, Option, Some, None}
 use Rattle.pseudotree.specs.DepthFirst.{dfs}
-use Rattle.cut_laws.specs.Turns.{turn_count}
+use Rattle.run_laws.specs.Turns.{turn_count}
 use Rattle.cut_dpop.specs.Certificate.{IsCertifiedEnd}
 use Rattle.cut_dpop.specs.Kept.{AreTurns}
 use Rattle.cut_dpop.specs.declared.run.CutEnd.{CutEnd}
@@ -11,8 +11,8 @@ use Rattle.certificate_text.specs.declared.certificate.Certificate.{Certificate}
 use Rattle.certificate_text.specs.declared.certificate.Certificate.TheVariants.{Cut}
 use Rattle.certificate_text.specs.declared.certificate.Turn.{Turn}
 use Rattle.certificate_text.specs.declared.report.Report.{Report}
-use Rattle.problem_solved.specs.Goal.{problem_solved}
-use Rattle.problem_solved.specs.Holds.{HoldsCut}
+use Rattle.minimised_problem.specs.Goal.{problem_solved}
+use Rattle.minimised_problem.specs.Holds.{HoldsCut}
 
 -- these are the tables of all turns of a cut of the problem solved for a file, they fit the file,
 -- and the report holds with them

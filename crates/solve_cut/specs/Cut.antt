@@ -3,9 +3,9 @@ use Rattle.std.specs.Prelude.{◌≡◌, ℕ, ◌*◌, Bool, List, Option, Some,
 use Rattle.dcop_base.specs.Problem.{Dcop, IsAssignment, cost}
 use Rattle.dcop_base.specs.Whole.{IsProblem}
 use Rattle.pseudotree.specs.DepthFirst.{dfs}
-use Rattle.cut_laws.specs.CutSet.{IsCutSet}
-use Rattle.cut_laws.specs.Kept.{IsCutAnswer}
-use Rattle.cut_laws.specs.Turns.{turn_count}
+use Rattle.run_laws.specs.CutSet.{IsCutSet}
+use Rattle.run_laws.specs.Kept.{IsCutAnswer}
+use Rattle.run_laws.specs.Turns.{turn_count}
 use Rattle.cut_dpop.specs.End.{IsCutEnd, IsRefused}
 use Rattle.cut_dpop.specs.Refusal.{refusal}
 use Rattle.cut_dpop.specs.Start.{turn_deliveries}
@@ -18,7 +18,7 @@ use Rattle.problem_text.specs.Steps.{declared_by}
 use Rattle.certificate_text.specs.declared.report.Report.{Report}
 use Rattle.certificate_text.specs.declared.report.Ending.TheVariants.{Solved}
 use Rattle.certificate_text.specs.declared.report.Method.TheVariants.{Cut}
-use Rattle.problem_solved.specs.Goal.{problem_solved, IsBestSum}
+use Rattle.minimised_problem.specs.Goal.{problem_solved, IsBestSum}
 use Rattle.solve_report.specs.declared.answer.Answer.{Answer}
 use Rattle.solve_report.specs.declared.answer.Answer.TheVariants as answers
 use Rattle.solve_cut.specs.Certified.{IsCutCertified, HasTurnsIf}

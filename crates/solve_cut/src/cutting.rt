@@ -2,7 +2,7 @@
 
 ghost use Rattle.std.specs.Prelude.{◌≡◌, ◌<◌, ◌≤◌};
 ghost use Rattle.dcop_base.specs.Limits.{joined_limit, size_limit};
-ghost use Rattle.problem_solved.specs.Goal.{problem_solved};
+ghost use Rattle.minimised_problem.specs.Goal.{problem_solved};
 ghost use Rattle.pseudotree.specs.DepthFirst.{dfs};
 ghost use Rattle.pseudotree.specs.Pseudotree.{IsPseudotreeOf};
 ghost use Rattle.solve_cut.specs.Cut.{GivesCut};
@@ -10,7 +10,7 @@ ghost use Rattle.solve_cut.specs.Cut.{GivesCut};
 use cut_dpop::{CutEnd, CutFault, run_cut};
 use dcop_base::{Problem, problem_is_whole};
 use dcop_edge::Gate;
-use problem_solved::ProblemSolved;
+use minimised_problem::ProblemSolved;
 use problem_text::ProblemFile;
 use pseudotree::{Tree, depth_first_trees_are_linked};
 use std::alloc::Global;

@@ -2,8 +2,8 @@
 
 ghost use Rattle.solve_cut.specs.Allowed.{AllowedCutsAreSolved};
 
-use cut_laws::cut_sets_are_one;
 use pseudotree::depth_first_trees_are_linked;
+use run_laws::cut_sets_are_one;
 
 /// If nothing refuses the cut of what a text declares, an answer of the method cut is a solved
 /// report.

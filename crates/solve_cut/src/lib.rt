@@ -6,7 +6,7 @@
 //! requested, or what refuses the cut. The law [`allowed_cuts_are_solved`] says that the answer to
 //! a cut that nothing refuses is a solved report.
 //!
-//! It builds on `cut_dpop` to run the cut, on `cut_laws` for the laws about cuts, and on
+//! It builds on `cut_dpop` to run the cut, on `run_laws` for the laws about cuts, and on
 //! `solve_report` for answers.
 #![tactic(auto)]
 

@@ -10,7 +10,7 @@ use Rattle.problem_text.specs.declared.edited.Edited.{Edited}
 use Rattle.certificate_text.specs.declared.report.Report.{Report}
 use Rattle.certificate_text.specs.declared.report.Ending.TheVariants.{Solved}
 use Rattle.certificate_text.specs.declared.report.Method.TheVariants.{Dpop}
-use Rattle.problem_solved.proofs.SolvedLaws.{solved_sizes}
+use Rattle.minimised_problem.proofs.SolvedLaws.{solved_sizes}
 use Rattle.solve_report.specs.Edits.{IsNamedOptimum}
 use Rattle.solve_methods.proofs.TellLaws.{CanTell-assignment}
 use Rattle.edit_session.specs.State.{SessionState, IsAnswerNow, answered, edited}

@@ -7,7 +7,7 @@ use Rattle.problem_text.specs.File.{TextFile}
 use Rattle.problem_text.specs.Declarations.{Declared}
 use Rattle.problem_text.specs.Steps.{declared_by}
 use Rattle.problem_text.specs.PlainLines.{plain_lines}
-use Rattle.problem_solved.specs.Goal.{problem_solved}
+use Rattle.minimised_problem.specs.Goal.{problem_solved}
 use Rattle.solve_report.specs.declared.answer.Answer.{Answer}
 use Rattle.solve_report.specs.declared.answer.Answer.TheVariants as answers
 use Rattle.solve_methods.specs.Dpop.{wide_in, wide_answer}

@@ -7,9 +7,9 @@ use Rattle.dcop_optimum.proofs.OptimumLaws.{some_optimum}
 use Rattle.dcop_optimum.proofs.TurnLaws.{sum_to_top}
 use Rattle.protocol_steps.specs.AdoptBounds.{lower_bound, upper_bound}
 use Rattle.protocol_steps.specs.Effect.{has_ended}
-use Rattle.token_runs.specs.Laws.{TokenRuns}
-use Rattle.adopt_runs.specs.RunLaws.{AdoptBoundsEnclose}
-use Rattle.adopt_ends.specs.EndLaw.{AdoptEnds}
+use Rattle.run_laws.specs.TokenLaws.{TokenRuns}
+use Rattle.run_laws.specs.AdoptRunLaws.{AdoptBoundsEnclose}
+use Rattle.run_laws.specs.AdoptEnd.{AdoptEnds}
 use Rattle.run_log.specs.declared.log.LogEvent.{LogEvent}
 use Rattle.run_log.specs.LogText.{IsNamedEvent}
 use Rattle.problem_text.specs.File.{TextFile, IsFile}
@@ -19,15 +19,15 @@ use Rattle.certificate_text.specs.Named.{IsNamedCertificate, CanTell}
 use Rattle.certificate_text.specs.declared.certificate.Certificate.{Certificate}
 use Rattle.certificate_text.specs.declared.report.Report.{Report}
 use Rattle.certificate_text.specs.declared.report.Method.TheVariants.{Adopt}
-use Rattle.problem_solved.specs.Goal.{solved, problem_solved, IsAtMostWorse}
-use Rattle.problem_solved.proofs.SolvedLaws.{solved_problem, solved_sizes}
+use Rattle.minimised_problem.specs.Goal.{solved, problem_solved, IsAtMostWorse}
+use Rattle.minimised_problem.proofs.SolvedLaws.{solved_problem, solved_sizes}
 use Rattle.solve_methods.specs.Certified.{IsLogFor, IsLoggedBy, IsLogged, certificate_of_log}
 use Rattle.solve_methods.specs.Goal.{IsRightReport}
 use Rattle.solve_methods.specs.Kept.{IsLogOf}
-use Rattle.log_holds.specs.Ends.{least_known, least_shown, lower_for, upper_for, TellsEnd}
-use Rattle.log_holds.specs.Holds.{agents_for}
-use Rattle.log_holds.proofs.HoldsLaws.{small-gap}
-use Rattle.log_holds.proofs.GoalLaws.{solved-assigned, right-bounds, right-near, solved-ended}
+use Rattle.minimised_problem.specs.LogEnds.{least_known, least_shown, lower_for, upper_for, TellsEnd}
+use Rattle.minimised_problem.specs.LogHolds.{agents_for}
+use Rattle.minimised_problem.proofs.HoldsLaws.{small-gap}
+use Rattle.minimised_problem.proofs.GoalLaws.{solved-assigned, right-bounds, right-near, solved-ended}
 use Rattle.solve_methods.specs.Adopt.{IsAdoptReport}
 use Rattle.solve_methods.specs.Reached.{HaveReached}
 use Rattle.solve_methods.specs.declared.adopt.Reached.{Reached}

@@ -16,18 +16,18 @@ use Rattle.protocol_steps.specs.View.{AdoptKind, value_of, standing_of}
 use Rattle.protocol_steps.specs.Network.{start_state}
 use Rattle.protocol_steps.specs.Rounds.{RoundsAreARun}
 use Rattle.protocol_steps.specs.TreeAgents.{adopt_agents}
-use Rattle.adopt_runs.specs.AdoptRun.{IsAdoptRun}
-use Rattle.adopt_runs.specs.PendingLaw.{AdoptPending}
-use Rattle.adopt_runs.specs.RunLaws.{HoldsOfAdopt, AdoptBoundsEnclose}
-use Rattle.adopt_ends.specs.EndLaw.{AdoptEnds}
-use Rattle.log_holds.specs.Ends.{least_known, least_shown, ending_of}
-use Rattle.log_holds.proofs.EndLaws.{agents-assigned, least-above}
+use Rattle.run_laws.specs.AdoptRun.{IsAdoptRun}
+use Rattle.run_laws.specs.AdoptPendingLaw.{AdoptPending}
+use Rattle.run_laws.specs.AdoptRunLaws.{HoldsOfAdopt, AdoptBoundsEnclose}
+use Rattle.run_laws.specs.AdoptEnd.{AdoptEnds}
+use Rattle.minimised_problem.specs.LogEnds.{least_known, least_shown, ending_of}
+use Rattle.minimised_problem.proofs.LogEndLaws.{agents-assigned, least-above}
 use Rattle.solve_methods.specs.Reached.{HaveReached}
 use Rattle.solve_methods.specs.Kept.{IsLogOf}
 use Rattle.protocol_steps.specs.Outcomes.{HaveRun}
 use Rattle.solve_methods.specs.declared.adopt.Reached.{Reached}
-use Rattle.tree_search.proofs.EndLaws.{run-spent}
-use Rattle.log_holds.proofs.RootLaws.{root-zero}
+use Rattle.minimised_problem.proofs.SearchEndLaws.{run-spent}
+use Rattle.minimised_problem.proofs.RootLaws.{root-zero}
 
 -- agents that have run on the depth-first tree
 module _ (p : Dcop) (whole : IsProblem p) (is_tree : IsPseudotree p (dfs p)) (linked : IsLinked p (dfs p)) (rounds : RoundsAreARun) (bounds : AdoptBoundsEnclose) (pending : AdoptPending) (ends : AdoptEnds)

@@ -11,12 +11,12 @@ use Rattle.protocol_steps.specs.declared.outcome.Outcome.{Outcome}
 use Rattle.protocol_steps.specs.Network.{start_state}
 use Rattle.protocol_steps.specs.Rounds.{RoundsAreARun}
 use Rattle.protocol_steps.specs.TreeAgents.{dpop_agents}
-use Rattle.dpop_runs.specs.Laws.{DpopRuns}
-use Rattle.util_tables.proofs.RunLaws.{have_made}
+use Rattle.run_laws.specs.DpopLaws.{DpopRuns}
+use Rattle.minimised_problem.proofs.RunLaws.{have_made}
 use Rattle.solve_methods.specs.Agreed.{HaveValues}
 use Rattle.solve_methods.specs.Dpop.{IsFirstOfTree, dpop_deliveries}
 use Rattle.protocol_steps.specs.Outcomes.{HaveRun}
-use Rattle.tree_search.proofs.EndLaws.{run-ended}
+use Rattle.minimised_problem.proofs.SearchEndLaws.{run-ended}
 
 -- DPOP agents that have run under the budget of their messages have the first optimum of their tree
 pub run-agreed : (p : Dcop) → IsProblem p → IsPseudotree p (dfs p) → IsLinked p (dfs p) → IsNarrow p (dfs p) → DpopRuns → RoundsAreARun → (outcome : Outcome) → HaveRun (dpop_deliveries p) (dpop_agents p (dfs p)) outcome

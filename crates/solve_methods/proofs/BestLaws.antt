@@ -12,8 +12,8 @@ use Rattle.dcop_optimum.proofs.TurnLaws.{sum_to_top, tells_greatest}
 use Rattle.problem_text.specs.File.{TextFile}
 use Rattle.problem_text.specs.declared.file.Goal.{Goal}
 use Rattle.problem_text.specs.declared.file.Goal.TheVariants.{Min, Max}
-use Rattle.problem_solved.specs.Goal.{solved, IsBestSum}
-use Rattle.problem_solved.proofs.SolvedLaws.{solved_sizes}
+use Rattle.minimised_problem.specs.Goal.{solved, IsBestSum}
+use Rattle.minimised_problem.proofs.SolvedLaws.{solved_sizes}
 use Rattle.solve_methods.specs.Plain.{IsTooMany, GivesFirst, GivesBest}
 
 -- optimal values of the turned problem cost the greatest sum in the problem

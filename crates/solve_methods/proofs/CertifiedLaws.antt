@@ -13,14 +13,14 @@ use Rattle.certificate_text.specs.declared.report.Ending.TheVariants.{Solved}
 use Rattle.certificate_text.specs.declared.report.Method.TheVariants.{Dpop}
 use Rattle.certificate_text.specs.Fits.{FitsUtil, FitsTables}
 use Rattle.certificate_text.specs.Named.{IsNamedUtil, IsNamedCertificate, CanTell}
-use Rattle.problem_solved.specs.Goal.{problem_solved}
-use Rattle.problem_solved.proofs.SolvedLaws.{solved_problem, solved_sizes}
-use Rattle.util_tables.specs.Utils.{AreUtilsOf}
+use Rattle.minimised_problem.specs.Goal.{problem_solved}
+use Rattle.minimised_problem.proofs.SolvedLaws.{solved_problem, solved_sizes}
+use Rattle.minimised_problem.specs.Utils.{AreUtilsOf}
 use Rattle.solve_methods.specs.Certified.{HasUtilsOf, AreTablesOf, IsCertifiedBy, IsCertified}
 use Rattle.solve_methods.specs.Dpop.{dpop_deliveries, IsFirstOfTree, IsDpopReport, AreBestChosen}
 use Rattle.solve_methods.specs.declared.dpop.Chosen.{Chosen}
 use Rattle.solve_methods.proofs.TellLaws.{CanTell-certified}
-use Rattle.util_tables.proofs.UtilLaws.{tables_fit, tables_show}
+use Rattle.minimised_problem.proofs.UtilLaws.{tables_fit, tables_show}
 
 module _ (trees : DepthFirstTreesAreLinked) (file : TextFile) (whole : IsProblem file.problem) where
   -- the tables of the problem solved fit the file's problem

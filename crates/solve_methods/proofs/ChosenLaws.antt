@@ -17,8 +17,8 @@ use Rattle.certificate_text.specs.declared.report.Report.{Report}
 use Rattle.solve_report.specs.AnswerText.{HasText}
 use Rattle.solve_report.specs.declared.answer.Answer.{Answer}
 use Rattle.solve_report.specs.declared.answer.Answer.TheVariants as answers
-use Rattle.problem_solved.specs.Goal.{solved, IsBestSum}
-use Rattle.problem_solved.proofs.SolvedLaws.{solved_sizes}
+use Rattle.minimised_problem.specs.Goal.{solved, IsBestSum}
+use Rattle.minimised_problem.proofs.SolvedLaws.{solved_sizes}
 use Rattle.solve_methods.proofs.RightLaws.{right_of_best}
 use Rattle.solve_methods.proofs.BestLaws.{best_of}
 use Rattle.solve_methods.specs.Goal.{IsRightReport, TellsRight}

@@ -8,8 +8,8 @@ use Rattle.pseudotree.specs.Preorder.{preorder_of}
 use Rattle.pseudotree.specs.Pseudotree.{separator_of, IsPseudotree}
 use Rattle.certificate_text.specs.declared.certificate.Certificate.{Certificate}
 use Rattle.certificate_text.specs.declared.certificate.Util.{Util}
-use Rattle.util_tables.specs.Utils.{AreUtilsOf, HaveMade, util_with}
-use Rattle.util_tables.proofs.MadeLaws.{utils_made}
+use Rattle.minimised_problem.specs.Utils.{AreUtilsOf, HaveMade, util_with}
+use Rattle.minimised_problem.proofs.MadeLaws.{utils_made}
 use Rattle.solve_report.specs.declared.tree.NodeRow.{NodeRow}
 use Rattle.solve_methods.specs.Agreed.{node_util, certificate_with}
 use Rattle.solve_methods.specs.Certified.{HasUtilsOf}

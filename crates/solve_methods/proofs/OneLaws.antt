@@ -20,13 +20,13 @@ use Rattle.certificate_text.specs.declared.certificate.Util.{Util}
 use Rattle.certificate_text.specs.declared.report.Report.{Report}
 use Rattle.certificate_text.specs.declared.report.Ending.{Ending}
 use Rattle.certificate_text.specs.declared.report.Method.{Method}
-use Rattle.problem_solved.specs.Goal.{problem_solved}
-use Rattle.dpop_runs.specs.Agents.{IsOptimumTable}
-use Rattle.util_tables.specs.Utils.{IsUtilOf}
+use Rattle.minimised_problem.specs.Goal.{problem_solved}
+use Rattle.run_laws.specs.DpopAgents.{IsOptimumTable}
+use Rattle.minimised_problem.specs.Utils.{IsUtilOf}
 use Rattle.solve_methods.specs.Certified.{IsCertifiedBy, IsCertified}
 use Rattle.solve_methods.specs.Dpop.{IsDpopReport}
-use Rattle.problem_solved.proofs.SolvedLaws.{solved_problem}
-use Rattle.util_tables.proofs.UtilLaws.{cell_optimum}
+use Rattle.minimised_problem.proofs.SolvedLaws.{solved_problem}
+use Rattle.minimised_problem.proofs.UtilLaws.{cell_optimum}
 
 -- a table with these parts
 util_with : ℕ → Option ℕ → List ℕ → List ℕ → Util

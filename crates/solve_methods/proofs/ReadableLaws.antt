@@ -22,7 +22,7 @@ use Rattle.protocol_steps.specs.Rounds.{most_events, link_share, AreShares, Take
 use Rattle.protocol_steps.specs.RoundBounds.{round_share, RoundsAreBounded}
 use Rattle.protocol_steps.specs.TreeAgents.{adopt_agents}
 use Rattle.protocol_steps.proofs.EventLaws.{begins, happens_to}
-use Rattle.worker_runs.proofs.CellStampLaws.{run_delivers}
+use Rattle.worker_laws.proofs.CellStampLaws.{run_delivers}
 use Rattle.run_log.specs.declared.log.LogEvent.{LogEvent}
 use Rattle.run_log.specs.Logs.{event_of, events_of}
 use Rattle.run_log.specs.Laws.{IsStampedRun}
@@ -31,12 +31,12 @@ use Rattle.problem_text.specs.File.{TextFile}
 use Rattle.certificate_text.specs.declared.certificate.Certificate.{Certificate}
 use Rattle.certificate_text.specs.declared.certificate.Certificate.TheVariants.{Log}
 use Rattle.certificate_text.specs.declared.report.Report.{Report}
-use Rattle.problem_solved.specs.Goal.{problem_solved}
-use Rattle.problem_solved.proofs.SolvedLaws.{solved_sizes}
+use Rattle.minimised_problem.specs.Goal.{problem_solved}
+use Rattle.minimised_problem.proofs.SolvedLaws.{solved_sizes}
 use Rattle.solve_methods.specs.Certified.{IsLogFor, IsLoggedBy, IsLogged}
 use Rattle.solve_methods.specs.Adopt.{IsAdoptReport}
 use Rattle.solve_methods.specs.Readable.{IsSmallEvent}
-use Rattle.log_holds.specs.Holds.{agents_for}
+use Rattle.minimised_problem.specs.LogHolds.{agents_for}
 
 abbrev AtMost : ℕ → ℕ → Type 0
 AtMost m k = k ≤ m

@@ -7,7 +7,7 @@ use Rattle.problem_text.specs.File.{TextFile}
 use Rattle.problem_text.specs.declared.file.Goal.{Goal}
 use Rattle.problem_text.specs.declared.file.Goal.TheVariants.{Min, Max}
 use Rattle.certificate_text.specs.declared.report.Report.{Report}
-use Rattle.problem_solved.specs.Goal.{IsBestSum, IsAtMostWorse}
+use Rattle.minimised_problem.specs.Goal.{IsBestSum, IsAtMostWorse}
 use Rattle.solve_methods.specs.Goal.{IsRightReport}
 use Rattle.solve_methods.specs.Plain.{AreBestValues, IsPlainReport}
 

@@ -7,9 +7,9 @@ use Rattle.problem_text.specs.Steps.{declared_by}
 use Rattle.solve_report.specs.Tree.{IsNamedRow}
 use Rattle.solve_report.specs.declared.tree.NodeRow.{NodeRow}
 use Rattle.solve_report.specs.declared.answer.Answer.TheVariants as answers
-use Rattle.tree_search.specs.Found.{IsFound}
+use Rattle.minimised_problem.specs.Found.{IsFound}
 use Rattle.solve_methods.specs.Tree.{rows_with, rows_of, AnswersTree}
-use Rattle.tree_search.specs.declared.search.Found.{Found}
+use Rattle.minimised_problem.specs.declared.search.Found.{Found}
 use Rattle.solve_methods.proofs.RowLaws.{rows_named, rows_same}
 
 module _ (file : TextFile) (found : Found) (nodes : List NodeRow) (is : IsFound file.problem found) (made : nodes ≡ rows_with (separator_at found.tree) found.tree.paths) where

@@ -9,14 +9,14 @@ use Rattle.protocol_steps.specs.Network.{Network, start_state}
 use Rattle.protocol_steps.specs.Effect.{has_ended, deliveries}
 use Rattle.protocol_steps.specs.Rounds.{AreRounds}
 use Rattle.protocol_steps.specs.TreeAgents.{adopt_agents}
-use Rattle.adopt_runs.specs.AdoptRun.{IsAdoptRun}
+use Rattle.run_laws.specs.AdoptRun.{IsAdoptRun}
 use Rattle.problem_text.specs.File.{TextFile}
 use Rattle.problem_text.specs.Declarations.{Declared}
 use Rattle.problem_text.specs.Steps.{declared_by}
 use Rattle.certificate_text.specs.declared.report.Report.{Report}
 use Rattle.certificate_text.specs.declared.report.Method.TheVariants.{Adopt}
-use Rattle.problem_solved.specs.Goal.{problem_solved}
-use Rattle.log_holds.specs.Ends.{TellsEnd}
+use Rattle.minimised_problem.specs.Goal.{problem_solved}
+use Rattle.minimised_problem.specs.LogEnds.{TellsEnd}
 use Rattle.solve_methods.specs.Certified.{IsLogged}
 use Rattle.solve_report.specs.declared.answer.Answer.{Answer}
 use Rattle.solve_report.specs.declared.answer.Answer.TheVariants as answers

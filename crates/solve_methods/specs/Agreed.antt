@@ -7,7 +7,7 @@ use Rattle.protocol_steps.specs.declared.outcome.Outcome.{Outcome}
 use Rattle.certificate_text.specs.declared.certificate.Certificate.{Certificate}
 use Rattle.certificate_text.specs.declared.certificate.Certificate.TheVariants.{Tables}
 use Rattle.certificate_text.specs.declared.certificate.Util.{Util}
-use Rattle.util_tables.specs.Utils.{HaveMade, cells_on}
+use Rattle.minimised_problem.specs.Utils.{HaveMade, cells_on}
 use Rattle.solve_report.specs.declared.tree.NodeRow.{NodeRow}
 use Rattle.solve_methods.specs.Dpop.{dpop_deliveries, IsFirstOfTree}
 

@@ -11,10 +11,10 @@ use Rattle.certificate_text.specs.declared.certificate.Certificate.TheVariants.{
 use Rattle.certificate_text.specs.declared.certificate.Util.{Util}
 use Rattle.certificate_text.specs.declared.report.Report.{Report}
 use Rattle.certificate_text.specs.Fits.{FitsTables}
-use Rattle.problem_solved.specs.Goal.{problem_solved}
-use Rattle.problem_solved.specs.Holds.{HoldsTables}
-use Rattle.log_holds.specs.Holds.{agents_for, HoldsLog}
-use Rattle.util_tables.specs.Utils.{AreUtilsOf}
+use Rattle.minimised_problem.specs.Goal.{problem_solved}
+use Rattle.minimised_problem.specs.Holds.{HoldsTables}
+use Rattle.minimised_problem.specs.LogHolds.{agents_for, HoldsLog}
+use Rattle.minimised_problem.specs.Utils.{AreUtilsOf}
 use Rattle.solve_methods.specs.Kept.{IsLogOf}
 
 -- a certificate has the tables of all variables of a problem on its depth-first tree

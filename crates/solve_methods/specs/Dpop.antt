@@ -16,7 +16,7 @@ use Rattle.certificate_text.specs.declared.report.Ending.TheVariants.{Solved}
 use Rattle.certificate_text.specs.declared.report.Method.TheVariants.{Dpop}
 use Rattle.solve_report.specs.declared.answer.Answer.{Answer}
 use Rattle.solve_report.specs.declared.answer.Answer.TheVariants as answers
-use Rattle.problem_solved.specs.Goal.{solved, IsBestSum}
+use Rattle.minimised_problem.specs.Goal.{solved, IsBestSum}
 use Rattle.solve_methods.specs.Certified.{HasUtilsOf, IsCertified}
 use Rattle.solve_methods.specs.declared.dpop.Chosen.{Chosen}
 use Rattle.solve_methods.specs.declared.dpop.Choice.{Choice}

@@ -5,7 +5,7 @@ use Rattle.problem_text.specs.File.{TextFile}
 use Rattle.certificate_text.specs.declared.report.Report.{Report}
 use Rattle.certificate_text.specs.declared.report.Ending.TheVariants as endings
 use Rattle.certificate_text.specs.declared.report.Method.TheVariants as methods
-use Rattle.problem_solved.specs.Goal.{IsBestSum, IsAtMostWorse}
+use Rattle.minimised_problem.specs.Goal.{IsBestSum, IsAtMostWorse}
 use Rattle.solve_report.specs.declared.answer.Answer.{Answer}
 use Rattle.solve_report.specs.declared.answer.Answer.TheVariants as answers
 

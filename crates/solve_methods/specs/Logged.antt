@@ -1,14 +1,14 @@
 -- The law about reports of ADOPT with the log of their run.
 use Rattle.std.specs.Prelude.{ℕ, Bool, List}
 use Rattle.dcop_base.specs.Whole.{IsProblem}
-use Rattle.worker_runs.specs.Cells.{CellState}
-use Rattle.worker_runs.specs.Merges.{IsMerge}
-use Rattle.worker_runs.specs.CellRuns.{journals_of, IsRunOfCells}
+use Rattle.worker_laws.specs.Cells.{CellState}
+use Rattle.worker_laws.specs.Merges.{IsMerge}
+use Rattle.worker_laws.specs.CellRuns.{journals_of, IsRunOfCells}
 use Rattle.run_log.specs.declared.log.LogEvent.{LogEvent}
 use Rattle.run_log.specs.Logs.{entries_of}
 use Rattle.problem_text.specs.File.{TextFile}
 use Rattle.certificate_text.specs.declared.report.Report.{Report}
-use Rattle.log_holds.specs.Holds.{agents_for, HoldsLog}
+use Rattle.minimised_problem.specs.LogHolds.{agents_for, HoldsLog}
 use Rattle.solve_methods.specs.Adopt.{IsAdoptReport}
 
 -- if cells have made the run of a report of ADOPT, the report holds with their merged journals as

@@ -12,7 +12,7 @@ use Rattle.certificate_text.specs.declared.report.Method.TheVariants.{Plain}
 use Rattle.certificate_text.specs.Named.{CanTell}
 use Rattle.solve_report.specs.declared.answer.Answer.{Answer}
 use Rattle.solve_report.specs.declared.answer.Answer.TheVariants as answers
-use Rattle.problem_solved.specs.Goal.{solved, IsBestSum}
+use Rattle.minimised_problem.specs.Goal.{solved, IsBestSum}
 use Rattle.solve_methods.specs.Goal.{IsRightReport}
 
 -- a report of plain search on a file: its cost is that of its values in the file's problem, and

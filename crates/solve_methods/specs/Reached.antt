@@ -8,8 +8,8 @@ use Rattle.protocol_steps.specs.Effect.{has_ended, deliveries}
 use Rattle.protocol_steps.specs.Adopt.{AdoptView}
 use Rattle.protocol_steps.specs.AdoptBounds.{lower_bound}
 use Rattle.protocol_steps.specs.TreeAgents.{adopt_agents}
-use Rattle.adopt_ends.specs.EndLaw.{values_of}
-use Rattle.log_holds.specs.Ends.{IsRootAgent, ending_of, least_shown}
+use Rattle.run_laws.specs.AdoptEnd.{values_of}
+use Rattle.minimised_problem.specs.LogEnds.{IsRootAgent, ending_of, least_shown}
 use Rattle.solve_methods.specs.Adopt.{IsAdoptPlay}
 use Rattle.solve_methods.specs.Kept.{IsLogOf}
 use Rattle.solve_methods.specs.declared.adopt.Reached.{Reached}

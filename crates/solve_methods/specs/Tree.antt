@@ -9,7 +9,7 @@ use Rattle.pseudotree.specs.DepthFirst.{dfs}
 use Rattle.problem_text.specs.File.{TextFile}
 use Rattle.problem_text.specs.Declarations.{Declared}
 use Rattle.problem_text.specs.Steps.{declared_by}
-use Rattle.tree_search.specs.Found.{token_deliveries}
+use Rattle.minimised_problem.specs.Found.{token_deliveries}
 use Rattle.solve_report.specs.declared.tree.NodeRow.{NodeRow}
 use Rattle.solve_report.specs.declared.answer.Answer.{Answer}
 use Rattle.solve_report.specs.declared.answer.Answer.TheVariants as answers

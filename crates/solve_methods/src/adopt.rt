@@ -8,25 +8,23 @@ ghost use Rattle.dcop_optimum.specs.Goal.{top_of};
 ghost use Rattle.problem_text.specs.Steps.{declared_by};
 ghost use Rattle.certificate_text.specs.Named.{CanTell};
 ghost use Rattle.certificate_text.specs.declared.report.Ending.TheVariants.{Solved as solved_end, Spent as spent_end};
-ghost use Rattle.problem_solved.specs.Goal.{problem_solved};
+ghost use Rattle.minimised_problem.specs.Goal.{problem_solved};
 ghost use Rattle.solve_report.specs.AnswerText.{HasText};
-ghost use Rattle.log_holds.specs.Ends.{least_known, lower_for, upper_for};
+ghost use Rattle.minimised_problem.specs.LogEnds.{least_known, lower_for, upper_for};
 ghost use Rattle.solve_methods.specs.Adopt.{AnswersAdopt, IsAdoptReport};
 ghost use Rattle.solve_methods.specs.Goal.{IsRightReport, TellsRight};
 ghost use Rattle.solve_methods.specs.Reached.{HaveReached};
 ghost use Rattle.solve_methods.specs.Certified.{certificate_of_log};
 ghost use Rattle.solve_methods.specs.Kept.{HaveLogged};
 
-use adopt_ends::adopt_ends;
-use adopt_runs::{adopt_bounds_enclose, adopt_pending};
 use certificate_text::{Certificate, Ending, Method, Report};
 use dcop_base::{Problem, ValList, cost_of, problem_is_whole};
 use dcop_optimum::top_sum;
 use problem_text::{Goal, ProblemFile};
 use protocol_steps::{Outcome, rounds_are_a_run};
+use run_laws::{adopt_bounds_enclose, adopt_ends, adopt_pending, token_runs};
 use run_log::Log;
 use solve_report::Answer;
-use token_runs::token_runs;
 
 /// The request to ADOPT agents.
 #[derive(Clone, Copy, Debug, PartialEq, Eq)]

@@ -1,7 +1,7 @@
 //! The answer of the method auto.
 
 ghost use Rattle.problem_text.specs.Steps.{declared_by};
-ghost use Rattle.problem_solved.specs.Goal.{problem_solved};
+ghost use Rattle.minimised_problem.specs.Goal.{problem_solved};
 ghost use Rattle.solve_report.specs.AnswerText.{HasText};
 ghost use Rattle.solve_methods.specs.Auto.{AnswersAuto, GivesSettled};
 ghost use Rattle.solve_methods.specs.Goal.{TellsRight};

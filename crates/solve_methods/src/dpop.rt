@@ -7,7 +7,7 @@ ghost use Rattle.pseudotree.specs.Width.{IsNarrow};
 ghost use Rattle.protocol_steps.specs.TreeAgents.{dpop_agents};
 ghost use Rattle.problem_text.specs.Steps.{declared_by};
 ghost use Rattle.certificate_text.specs.Named.{CanTell};
-ghost use Rattle.problem_solved.specs.Goal.{problem_solved};
+ghost use Rattle.minimised_problem.specs.Goal.{problem_solved};
 ghost use Rattle.solve_report.specs.AnswerText.{HasText};
 ghost use Rattle.solve_methods.specs.Dpop.{AnswersDpop, HaveAgreed, IsDpopReport, wide_answer};
 ghost use Rattle.solve_methods.specs.Dpop.{dpop_deliveries, AreBestChosen, GivesChosen};
@@ -18,13 +18,12 @@ ghost use Rattle.solve_methods.specs.Tree.{rows_of};
 use crate::tables::certificate_of;
 use certificate_text::{Certificate, Ending, Method, Report};
 use dcop_base::{NoMemory, Problem, ValList, cost_of, problem_is_whole};
-use dpop_runs::dpop_runs;
 use problem_text::{Names, ProblemFile};
 use protocol_steps::{Outcome, rounds_are_a_run};
 use pseudotree::{Wide, depth_first_trees_are_linked};
+use run_laws::{dpop_runs, token_runs};
 use solve_report::{Answer, NodeRowList};
 use std::alloc::Global;
-use token_runs::token_runs;
 
 /// The values that agents chose, how many messages they took to choose them, and the tables that
 /// show the values to be optimal, if these are requested.

@@ -3,7 +3,7 @@
 ghost use Rattle.solve_methods.specs.Logged.{AdoptReportsHold};
 ghost use Rattle.solve_methods.specs.Readable.{AdoptReportsAreSmall};
 
-use log_holds::merged_logs_hold;
+use minimised_problem::merged_logs_hold;
 use protocol_steps::rounds_are_bounded;
 
 /// If cells have made the run of a report of ADOPT, the report holds with the merged journals of

@@ -8,8 +8,8 @@
 //! report of ADOPT holds with the log of its run. The law [`adopt_reports_are_small`] says that its
 //! numbers are small enough to be read again.
 //!
-//! It builds on `dcop_optimum` for plain search, on `dpop_runs`, `adopt_runs` and `adopt_ends` for
-//! what holds of the runs, on `log_holds` for logs, and on `solve_report` for answers.
+//! It builds on `dcop_optimum` for plain search, on `run_laws` for what holds of the runs, on
+//! `minimised_problem` for logs, and on `solve_report` for answers.
 #![tactic(auto)]
 
 mod adopt;

@@ -8,7 +8,7 @@ ghost use Rattle.solve_methods.specs.Plain.{IsPlainReport, GivesFirst, GivesBest
 use certificate_text::{Ending, Method, Report};
 use dcop_base::{NoMemory, Problem, ValList, cost_of, problem_is_whole};
 use dcop_optimum::{PlainFault, least_plain};
-use problem_solved::ProblemSolved;
+use minimised_problem::ProblemSolved;
 use problem_text::ProblemFile;
 use solve_report::Answer;
 use std::alloc::Global;

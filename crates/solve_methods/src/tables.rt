@@ -5,10 +5,10 @@ ghost use Rattle.solve_methods.specs.Agreed.{certificate_with, node_util};
 
 use certificate_text::{Certificate, Util, UtilList};
 use dcop_base::{NoMemory, Table};
+use minimised_problem::cells_of;
 use protocol_steps::OptionList;
 use solve_report::{NodeRow, NodeRowList};
 use std::alloc::Global;
-use util_tables::cells_of;
 
 /// The certificate of the tables that the agents of these nodes made, if nodes are given.
 pub(crate) fn certificate_of(

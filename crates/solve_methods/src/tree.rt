@@ -5,16 +5,16 @@ ghost use Rattle.dcop_base.specs.Problem.{Dcop};
 ghost use Rattle.pseudotree.specs.Pseudotree.{IsPseudotreeOf, separator_at};
 ghost use Rattle.problem_text.specs.Steps.{declared_by};
 ghost use Rattle.solve_report.specs.AnswerText.{HasText};
-ghost use Rattle.tree_search.specs.Found.{IsFound};
+ghost use Rattle.minimised_problem.specs.Found.{IsFound};
 ghost use Rattle.solve_methods.specs.Goal.{TellsRight};
 ghost use Rattle.solve_methods.specs.Tree.{row_with, rows_with, rows_of, AnswersTree};
 
 use dcop_base::{NoMemory, VarId, VarList};
+use minimised_problem::Found;
 use problem_text::ProblemFile;
 use pseudotree::Tree;
 use solve_report::{Answer, NodeRow, NodeRowList};
 use std::alloc::Global;
-use tree_search::Found;
 
 /// The answer of `tree` on a file, from the depth-first tree of its problem.
 ///

@@ -21,8 +21,8 @@ use Rattle.report_reader.specs.ReportLines.{Fault as ReportFault}
 use Rattle.report_reader.specs.ReportReading.{report_read}
 use Rattle.solve_report.specs.declared.answer.Answer.{Answer}
 use Rattle.solve_report.specs.declared.answer.Answer.TheVariants as answers
-use Rattle.answer_edge.specs.declared.status.Status.{Status}
-use Rattle.answer_edge.specs.declared.status.Status.TheVariants.{Solved, TooWide, ReadFault, LinkFault, LinkDiffers}
+use Rattle.answer_io.specs.declared.status.Status.{Status}
+use Rattle.answer_io.specs.declared.status.Status.TheVariants.{Solved, TooWide, ReadFault, LinkFault, LinkDiffers}
 use Rattle.solve_top.specs.declared.task.Task.{Task}
 use Rattle.solve_top.specs.declared.task.Task.TheVariants.{File, Check, Replay, Edit}
 use Rattle.solve_top.specs.declared.task.FileTask.{FileTask}
@@ -34,34 +34,34 @@ use Rattle.solve_methods.specs.Adopt.{IsAdoptAnswer}
 use Rattle.solve_methods.specs.Auto.{IsAutoBy, IsAutoAnswer}
 use Rattle.solve_methods.specs.Drill.{drilled}
 use Rattle.solve_methods.specs.Dpop.{wide_in, wide_answer, IsDpopSolved, IsAnswerBy, IsDpopAnswer}
-use Rattle.problem_solved.specs.Goal.{solved, problem_solved}
+use Rattle.minimised_problem.specs.Goal.{solved, problem_solved}
 use Rattle.solve_methods.specs.Goal.{TellsRight}
-use Rattle.answer_edge.proofs.InputLaws.{taken-least, count-stays}
-use Rattle.answer_edge.specs.Showing.{StaysUnless}
-use Rattle.answer_edge.specs.Input.{Input, Unread, Broken, TooLong, Whole, SourceState, IsAllOf, IsReadFrom}
+use Rattle.answer_io.proofs.InputLaws.{taken-least, count-stays}
+use Rattle.answer_io.specs.Showing.{StaysUnless}
+use Rattle.answer_io.specs.Input.{Input, Unread, Broken, TooLong, Whole, SourceState, IsAllOf, IsReadFrom}
 use Rattle.solve_top.specs.Served.{task_of}
 use Rattle.solve_top.specs.Drilling.{drill_of, made_for}
 use Rattle.solve_top.specs.declared.drilling.Drill.{Drill}
 use Rattle.solve_top.specs.Solving.{Answered, HasFitTree, IsWithinLimits, IsTextFor, Accepts, AsksDrill, GoesWell}
-use Rattle.answer_edge.specs.Statuses.{status_of, status_of_ending}
+use Rattle.answer_io.specs.Statuses.{status_of, status_of_ending}
 use Rattle.solve_methods.specs.Tree.{IsTreeAnswer}
 use Rattle.solve_words.specs.declared.command.Format.{Format}
 use Rattle.solve_words.specs.declared.command.Format.TheVariants.{Dcop as Own}
-use Rattle.solve_inputs.specs.Told.{Told, told_of}
-use Rattle.solve_inputs.specs.Inputs.{input_read}
-use Rattle.solve_inputs.specs.Fronts.{front_read, lines_in}
-use Rattle.solve_check.specs.Checking.{IsReadAnswer}
-use Rattle.solve_replay.specs.Replaying.{IsReplayOf, IsReadReplay}
+use Rattle.answer_io.specs.InputTold.{Told, told_of}
+use Rattle.answer_io.specs.Inputs.{input_read}
+use Rattle.answer_io.specs.Fronts.{front_read, lines_in}
+use Rattle.solve_printed.specs.Checking.{IsReadAnswer}
+use Rattle.solve_printed.specs.Replaying.{IsReplayOf, IsReadReplay}
 use Rattle.certificate_text.specs.declared.certificate.Certificate.{Certificate}
 use Rattle.certificate_text.specs.declared.certificate.Certificate.TheVariants.{Tables, Log, Cut}
-use Rattle.answer_edge.proofs.StatusLaws.{ending-told, read-alone}
-use Rattle.solve_inputs.proofs.RefusalLaws.{input_told, front_told}
+use Rattle.answer_io.proofs.StatusLaws.{ending-told, read-alone}
+use Rattle.answer_io.proofs.RefusalLaws.{input_told, front_told}
 use Rattle.solve_top.proofs.GivenLaws.{links-status, linkless-belongs}
 use Rattle.solve_top.proofs.SameLaws.{one_file, report_in}
 use Rattle.solve_top.proofs.PrintedLaws.{printed_solved, logged_solved}
 use Rattle.solve_top.proofs.EditLaws.{edits_solved, edits_sound}
 use Rattle.pseudotree.proofs.SearchLaws.{depth_first_trees_are_linked}
-use Rattle.cut_laws.proofs.CutSetLaws.{cut_sets_are_one}
+use Rattle.run_laws.proofs.CutSetLaws.{cut_sets_are_one}
 use Rattle.cut_dpop.specs.declared.fault.CutFault.{CutFault}
 use Rattle.cut_dpop.specs.declared.fault.CutFault.TheVariants as faults
 use Rattle.solve_cut.specs.Cut.{refusal_of, IsRefusalAnswer, IsCutAnswerBy}

@@ -10,7 +10,7 @@ use Rattle.certificate_text.specs.declared.report.Report.{Report}
 use Rattle.report_reader.specs.ReportLines.{Left, whole}
 use Rattle.report_reader.specs.ReportReading.{lines_read, report_read}
 use Rattle.report_reader.proofs.NumberLaws.{SameWords, read-same}
-use Rattle.solve_inputs.proofs.PrefixLaws.{lines_join}
+use Rattle.answer_io.proofs.PrefixLaws.{lines_join}
 
 kept_same : (c : Bool) (x y : Plain) (xs ys : List Plain) → x.words ≡ y.words → SameWords xs ys → SameWords (cond c (x ∷ xs) xs) (cond c (y ∷ ys) ys)
 kept_same true x y xs ys same later = (same, later)

@@ -14,8 +14,8 @@ use Rattle.pseudotree.specs.DepthFirst.{dfs}
 use Rattle.pseudotree.proofs.SearchLaws.{depth_first_trees_are_linked}
 use Rattle.pseudotree.specs.declared.width.Wide.{Wide}
 use Rattle.pseudotree.specs.declared.width.Wide.TheVariants.{Agent, Total}
-use Rattle.token_runs.proofs.RunLaws.{token_runs}
-use Rattle.adopt_runs.proofs.RunLaws.{adopt_bounds_enclose}
+use Rattle.run_laws.proofs.TokenRunLaws.{token_runs}
+use Rattle.run_laws.proofs.AdoptRunLaws.{adopt_bounds_enclose}
 use Rattle.protocol_steps.specs.declared.event.Take.{Take}
 use Rattle.protocol_steps.specs.Adopt.{AdoptView}
 use Rattle.protocol_steps.specs.AdoptBounds.{lower_bound}
@@ -34,13 +34,13 @@ use Rattle.certificate_text.specs.declared.certificate.Certificate.TheVariants.{
 use Rattle.certificate_text.specs.declared.report.Method.TheVariants.{Dpop}
 use Rattle.certificate_text.specs.declared.report.Report.{Report}
 use Rattle.certificate_text.specs.Fits.{FitsCertificate, Fits}
-use Rattle.problem_solved.specs.Goal.{solved, problem_solved}
-use Rattle.problem_solved.specs.Holds.{HoldsTables, HoldsCut}
-use Rattle.problem_solved.proofs.SolvedLaws.{solved_problem, solved_sizes}
-use Rattle.log_holds.specs.Ends.{least_known, lower_for, upper_for, least_shown, TellsEnd}
-use Rattle.log_holds.specs.Holds.{HoldsLog}
-use Rattle.log_holds.specs.Laws.{LogsShow}
-use Rattle.log_holds.proofs.HoldsLaws.{logs_show}
+use Rattle.minimised_problem.specs.Goal.{solved, problem_solved}
+use Rattle.minimised_problem.specs.Holds.{HoldsTables, HoldsCut}
+use Rattle.minimised_problem.proofs.SolvedLaws.{solved_problem, solved_sizes}
+use Rattle.minimised_problem.specs.LogEnds.{least_known, lower_for, upper_for, least_shown, TellsEnd}
+use Rattle.minimised_problem.specs.LogHolds.{HoldsLog}
+use Rattle.minimised_problem.specs.LogLaws.{LogsShow}
+use Rattle.minimised_problem.proofs.HoldsLaws.{logs_show}
 use Rattle.solve_report.specs.declared.answer.Answer.TheVariants as answers
 use Rattle.solve_methods.specs.Adopt.{IsAdoptReport, IsAdoptAnswer}
 use Rattle.solve_methods.specs.Auto.{IsAutoBy}
@@ -49,15 +49,15 @@ use Rattle.solve_methods.specs.Dpop.{wide_in, wide_answer, IsDpopReport, IsAnswe
 use Rattle.solve_methods.specs.Readable.{IsSmallEvent}
 use Rattle.solve_methods.proofs.NamedLaws.{log_named}
 use Rattle.solve_methods.proofs.ReadableLaws.{reports_small}
-use Rattle.cut_laws.specs.Turns.{turn_count}
-use Rattle.cut_laws.proofs.CutSetLaws.{cut_sets_are_one}
-use Rattle.cut_laws.proofs.KeptLaws.{cut_answers_are_optimal}
+use Rattle.run_laws.specs.Turns.{turn_count}
+use Rattle.run_laws.proofs.CutSetLaws.{cut_sets_are_one}
+use Rattle.run_laws.proofs.KeptLaws.{cut_answers_are_optimal}
 use Rattle.cut_dpop.specs.Start.{turn_deliveries}
 use Rattle.cut_dpop.proofs.EndLaws.{few-turns}
 use Rattle.cut_dpop.specs.declared.fault.CutFault.{CutFault}
 use Rattle.cut_dpop.specs.declared.fault.CutFault.TheVariants as faults
 use Rattle.solve_cut.specs.Cut.{IsCutOf, refusal_of, IsCutReport, IsRefusalAnswer, IsCutAnswerBy}
-use Rattle.solve_inputs.specs.Told.{Told}
+use Rattle.answer_io.specs.InputTold.{Told}
 use Rattle.solve_top.specs.declared.task.FileTask.{FileTask}
 use Rattle.solve_top.specs.declared.task.FileTask.TheVariants as tasks
 use Rattle.solve_top.specs.Answering.{IsUpgraded, IsFileAnswer}

@@ -13,13 +13,13 @@ use Rattle.problem_text.specs.PlainLines.{Plain, plain_lines}
 use Rattle.problem_text.specs.Reading.{Parts}
 use Rattle.problem_text.specs.Steps.{declared_by}
 use Rattle.problem_text.specs.declared.edited.Edited.{Edited}
-use Rattle.problem_solved.specs.Goal.{problem_solved}
-use Rattle.problem_solved.proofs.SolvedLaws.{solved_problem}
+use Rattle.minimised_problem.specs.Goal.{problem_solved}
+use Rattle.minimised_problem.proofs.SolvedLaws.{solved_problem}
 use Rattle.certificate_text.specs.declared.report.Report.{Report}
 use Rattle.solve_report.specs.declared.answer.Answer.{Answer}
 use Rattle.solve_report.specs.declared.answer.Answer.TheVariants as answers
-use Rattle.answer_edge.specs.declared.status.Status.TheVariants.{Solved}
-use Rattle.answer_edge.specs.Statuses.{status_of}
+use Rattle.answer_io.specs.declared.status.Status.TheVariants.{Solved}
+use Rattle.answer_io.specs.Statuses.{status_of}
 use Rattle.edit_session.specs.State.{SessionState, IsAnswerNow, opened, edited, answered}
 use Rattle.edit_session.specs.Faults.{set_fault, fill_fault, cells_set}
 use Rattle.edit_session.specs.declared.fault.SetFault.{SetFault}
@@ -30,7 +30,7 @@ use Rattle.edit_text.specs.declared.line.EditLine.TheVariants as said
 use Rattle.solve_edit.specs.Editing.{AnswersEdit, IsEditAnswer, IsEditAnswerBy, TellsLines, line_behind, told_answer}
 use Rattle.solve_edit.specs.Running.{Told as ToldLines, Refused, AreLinesTold, IsEditTold, IsLineTold, behind, ended}
 use Rattle.solve_methods.specs.Dpop.{wide_in, wide_answer, IsAnswerBy, AnswersDpop}
-use Rattle.solve_inputs.specs.Fronts.{lines_in}
+use Rattle.answer_io.specs.Fronts.{lines_in}
 use Rattle.solve_top.specs.Answering.{IsEditsAnswer}
 use Rattle.solve_top.specs.Solving.{HasFitTree, IsEditedFor}
 use Rattle.solve_top.specs.Taken.{AreLinesTaken, IsLineTaken}

@@ -4,9 +4,9 @@ use Rattle.tcp_links.specs.declared.fault.Difference.{Difference}
 use Rattle.tcp_links.specs.declared.fault.Difference.TheVariants.{Message, Bytes}
 use Rattle.problem_text.specs.Declarations.{Declared}
 use Rattle.solve_report.specs.declared.answer.Answer.{Answer}
-use Rattle.answer_edge.specs.declared.status.Status.TheVariants.{Solved, LinkFault, LinkDiffers}
-use Rattle.answer_edge.specs.Statuses.{status_of}
-use Rattle.answer_edge.specs.Input.{Input}
+use Rattle.answer_io.specs.declared.status.Status.TheVariants.{Solved, LinkFault, LinkDiffers}
+use Rattle.answer_io.specs.Statuses.{status_of}
+use Rattle.answer_io.specs.Input.{Input}
 use Rattle.solve_top.specs.Nodes.{difference_answer, TellsDifference, IsOfLinks}
 use Rattle.solve_top.specs.Answering.{IsAnswer}
 use Rattle.solve_top.specs.declared.task.FileTask.{FileTask}

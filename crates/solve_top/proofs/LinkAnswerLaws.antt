@@ -4,7 +4,7 @@ use Rattle.std.proofs.lemmas.Result.{IfOk-weaker}
 use Rattle.dcop_base.specs.Problem.{Dcop}
 use Rattle.dcop_base.specs.Whole.{IsProblem}
 use Rattle.dcop_base.specs.declared.memory.NoMemory.{NoMemory}
-use Rattle.worker_runs.specs.NodeRounds.{home}
+use Rattle.worker_laws.specs.OneNode.{home}
 use Rattle.tcp_links.specs.declared.fault.Difference.{Difference}
 use Rattle.tcp_links.specs.declared.fault.Difference.TheVariants.{Message, Bytes}
 use Rattle.tcp_links.specs.declared.fault.NodeFault.{NodeFault}
@@ -14,13 +14,13 @@ use Rattle.problem_text.specs.File.{TextFile}
 use Rattle.problem_text.specs.Steps.{declared_by}
 use Rattle.problem_text.specs.declared.file.Goal.{Goal}
 use Rattle.problem_text.specs.declared.file.Goal.TheVariants.{Min, Max}
-use Rattle.problem_solved.specs.Goal.{solved, problem_solved}
+use Rattle.minimised_problem.specs.Goal.{solved, problem_solved}
 use Rattle.solve_words.specs.declared.command.Command.{Command}
 use Rattle.solve_words.specs.Command.{answer_to}
 use Rattle.solve_report.specs.declared.answer.Answer.{Answer}
-use Rattle.answer_edge.specs.declared.status.Status.TheVariants.{LinkFault, LinkDiffers}
-use Rattle.answer_edge.specs.Statuses.{status_of}
-use Rattle.solve_inputs.specs.Told.{told_of}
+use Rattle.answer_io.specs.declared.status.Status.TheVariants.{LinkFault, LinkDiffers}
+use Rattle.answer_io.specs.Statuses.{status_of}
+use Rattle.answer_io.specs.InputTold.{told_of}
 use Rattle.solve_methods.specs.Drill.{drilled}
 use Rattle.solve_methods.specs.Goal.{TellsRight}
 use Rattle.solve_top.specs.Answering.{IsFileAnswer, IsDrillAnswer}

@@ -3,9 +3,9 @@ use Rattle.std.proofs.Common.{◌≡◌, ℕ, ◌<◌, inl, inr, List, [], ◌�
 use Rattle.std.specs.List.{All, slice_get}
 use Rattle.std.proofs.lemmas.Option.{slice_get_within, get_or_from_slice_get}
 use Rattle.std.proofs.lemmas.List.Elements.{All-nil, All-cons, All-head, All-tail}
-use Rattle.worker_runs.specs.Cells.{CellState}
-use Rattle.node_runs.specs.Wires.{Wire, ArePassedOn}
-use Rattle.node_runs.specs.NodeRounds.{AreNodeRounds}
+use Rattle.worker_laws.specs.Cells.{CellState}
+use Rattle.worker_laws.specs.Wires.{Wire, ArePassedOn}
+use Rattle.worker_laws.specs.NodeRounds.{AreNodeRounds}
 use Rattle.tcp_links.specs.declared.fault.Difference.{Difference}
 use Rattle.tcp_links.specs.declared.fault.Difference.TheVariants.{Message, Bytes}
 use Rattle.tcp_links.specs.declared.fault.NodeFault.TheVariants.{Differs}

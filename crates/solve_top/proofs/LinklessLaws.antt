@@ -22,21 +22,21 @@ use Rattle.protocol_steps.specs.Network.{start_state}
 use Rattle.run_log.specs.Logs.{events_of}
 use Rattle.solve_report.specs.declared.answer.Answer.{Answer}
 use Rattle.solve_report.specs.declared.answer.Answer.TheVariants as answers
-use Rattle.answer_edge.specs.declared.status.Status.{Status}
-use Rattle.answer_edge.specs.declared.status.Status.TheVariants.{BadText, LinkFault, LinkDiffers}
-use Rattle.answer_edge.specs.Statuses.{status_of, status_of_ending, status_of_verdict}
-use Rattle.answer_edge.specs.Showing.{refused_by}
-use Rattle.solve_inputs.specs.Told.{Told, wcsp_refused_by}
-use Rattle.solve_inputs.specs.Fronts.{own_front, wcsp_front, front_read, lines_in}
+use Rattle.answer_io.specs.declared.status.Status.{Status}
+use Rattle.answer_io.specs.declared.status.Status.TheVariants.{BadText, LinkFault, LinkDiffers}
+use Rattle.answer_io.specs.Statuses.{status_of, status_of_ending, status_of_verdict}
+use Rattle.answer_io.specs.Showing.{refused_by}
+use Rattle.answer_io.specs.InputTold.{Told, wcsp_refused_by}
+use Rattle.answer_io.specs.Fronts.{own_front, wcsp_front, front_read, lines_in}
 use Rattle.cut_dpop.specs.declared.fault.CutFault.{CutFault}
 use Rattle.cut_dpop.specs.declared.fault.CutFault.TheVariants as faults
 use Rattle.solve_cut.specs.Cut.{refusal_of, IsRefusalAnswer, IsCutAnswerBy}
-use Rattle.solve_check.specs.Checking.{IsReadAnswer}
-use Rattle.solve_replay.specs.Replaying.{log_up_to, IsReplay, IsReplayOf, IsReadReplay}
+use Rattle.solve_printed.specs.Checking.{IsReadAnswer}
+use Rattle.solve_printed.specs.Replaying.{log_up_to, IsReplay, IsReplayOf, IsReadReplay}
 use Rattle.solve_edit.specs.Editing.{IsEditAnswerBy, told_answer}
 use Rattle.solve_edit.specs.Running.{Told as ToldLines, Refused}
-use Rattle.problem_solved.specs.Goal.{problem_solved}
-use Rattle.log_holds.specs.Holds.{agents_for}
+use Rattle.minimised_problem.specs.Goal.{problem_solved}
+use Rattle.minimised_problem.specs.LogHolds.{agents_for}
 use Rattle.solve_methods.specs.Dpop.{wide_in, wide_answer, IsAnswerBy}
 use Rattle.solve_top.specs.declared.task.FileTask.{FileTask}
 use Rattle.solve_top.specs.declared.task.FileTask.TheVariants as tasks

@@ -6,7 +6,7 @@ use Rattle.pseudotree.specs.DepthFirst.{DepthFirstTreesAreLinked}
 use Rattle.pseudotree.specs.declared.width.Wide.{Wide}
 use Rattle.problem_text.specs.Declarations.{Declared}
 use Rattle.problem_text.specs.Steps.{declared_by}
-use Rattle.problem_solved.specs.Goal.{problem_solved}
+use Rattle.minimised_problem.specs.Goal.{problem_solved}
 use Rattle.solve_methods.specs.Auto.{AnswersAuto, IsAutoBy}
 use Rattle.solve_methods.specs.Dpop.{wide_in, AnswersDpop, IsAnswerBy}
 use Rattle.solve_methods.specs.Drill.{drilled}
@@ -20,14 +20,14 @@ use Rattle.solve_top.specs.Served.{task_of}
 use Rattle.solve_top.specs.declared.drilling.Drill.{Drill}
 use Rattle.solve_top.specs.declared.task.Task.{Task}
 use Rattle.solve_top.specs.declared.task.FileTask.{FileTask}
-use Rattle.answer_edge.specs.Input.{Input, Unread, Broken, TooLong, Whole}
+use Rattle.answer_io.specs.Input.{Input, Unread, Broken, TooLong, Whole}
 use Rattle.solve_top.specs.Same.{AreReadAlike, AskForDrill, AutoAnswersAreThoseOfDpop, ComeToDpop, DpopAnswersAreOne, DrillAnswersAreOne, EditAnswersAreThoseOfDpop, FitAnswersAreOne, HasFitProblem}
 use Rattle.solve_top.specs.Solving.{HasFitTree}
 use Rattle.solve_words.specs.declared.command.Command.{Command}
 use Rattle.solve_words.specs.declared.command.Format.{Format}
 use Rattle.solve_words.specs.declared.fault.WordFault.{WordFault}
-use Rattle.solve_inputs.specs.Told.{Told, told_of}
-use Rattle.solve_inputs.specs.Inputs.{input_read, declared_in}
+use Rattle.answer_io.specs.InputTold.{Told, told_of}
+use Rattle.answer_io.specs.Inputs.{input_read, declared_in}
 use Rattle.solve_top.proofs.AnswerLaws.{fit-none, IsAnswer-task, task-IsAnswer}
 use Rattle.solve_top.proofs.EditLaws.{same_as_dpop}
 use Rattle.solve_top.proofs.GivenLaws.{solved-belongs}

@@ -20,23 +20,23 @@ use Rattle.report_reader.specs.ReportReading.{report_read}
 use Rattle.report_reader.proofs.AgainLaws.{report-again}
 use Rattle.certificate_check.specs.Verdicts.{IsExactOn}
 use Rattle.delivery_core.specs.Faults.{FirstFault}
-use Rattle.log_holds.specs.Differences.{unlawful, fault_in}
-use Rattle.log_holds.specs.Holds.{agents_for, HoldsLog}
-use Rattle.log_holds.proofs.PlayedLaws.{or_none, or_parts, run-lawful}
+use Rattle.minimised_problem.specs.Differences.{unlawful, fault_in}
+use Rattle.minimised_problem.specs.LogHolds.{agents_for, HoldsLog}
+use Rattle.minimised_problem.proofs.PlayedLaws.{or_none, or_parts, run-lawful}
 use Rattle.log_check.proofs.DifferLaws.{fault_told}
 use Rattle.protocol_steps.specs.Effect.{effect}
 use Rattle.protocol_steps.specs.Run.{event_fault}
 use Rattle.solve_words.specs.declared.command.Format.{Format}
 use Rattle.solve_report.specs.declared.answer.Answer.{Answer}
 use Rattle.solve_report.specs.declared.answer.Answer.TheVariants as answers
-use Rattle.solve_check.specs.Checking.{IsReadAnswer, IsCheckAnswer, AnswersCheck}
-use Rattle.solve_replay.specs.Replaying.{log_up_to, IsReplay, IsReplayOf, IsReadReplay, AnswersReplay}
-use Rattle.solve_inputs.specs.Fronts.{front_read, lines_in}
-use Rattle.solve_inputs.proofs.FrontLaws.{front_kept, front_used}
+use Rattle.solve_printed.specs.Checking.{IsReadAnswer, IsCheckAnswer, AnswersCheck}
+use Rattle.solve_printed.specs.Replaying.{log_up_to, IsReplay, IsReplayOf, IsReadReplay, AnswersReplay}
+use Rattle.answer_io.specs.Fronts.{front_read, lines_in}
+use Rattle.answer_io.proofs.FrontLaws.{front_kept, front_used}
 use Rattle.solve_top.specs.Answering.{IsReportAnswer, IsReplayAnswer}
 use Rattle.solve_top.specs.Solving.{IsPrintedFor, IsLoggedFor}
-use Rattle.answer_edge.specs.Statuses.{status_of, status_of_verdict}
-use Rattle.answer_edge.specs.declared.status.Status.TheVariants.{Solved}
+use Rattle.answer_io.specs.Statuses.{status_of, status_of_verdict}
+use Rattle.answer_io.specs.declared.status.Status.TheVariants.{Solved}
 use Rattle.solve_top.proofs.BlankLaws.{rest_kept}
 use Rattle.solve_top.proofs.CertificateLaws.{Certifies, IsCertified, task_certified}
 use Rattle.solve_top.proofs.SameLaws.{one_file}

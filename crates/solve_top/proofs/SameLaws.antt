@@ -13,7 +13,7 @@ use Rattle.certificate_text.specs.declared.report.Report.{Report}
 use Rattle.solve_report.specs.declared.answer.Answer.{Answer}
 use Rattle.solve_report.specs.declared.answer.Answer.TheVariants as answers
 use Rattle.solve_methods.specs.Dpop.{wide_in, IsDpopReport, IsDpopSolved, IsAnswerBy, AnswersDpop}
-use Rattle.problem_solved.specs.Goal.{solved}
+use Rattle.minimised_problem.specs.Goal.{solved}
 use Rattle.solve_methods.proofs.OneLaws.{one_report}
 
 -- the file that declares this, with these joints

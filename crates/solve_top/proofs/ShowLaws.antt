@@ -2,13 +2,13 @@
 use Rattle.std.proofs.Common.{◌≡◌, ◌≢◌, ℕ, ◌⊎◌, inl, inr, List, Some, refl}
 use Rattle.dcop_edge.specs.Faults.{Rose}
 use Rattle.solve_report.specs.declared.answer.Answer.{Answer}
-use Rattle.answer_edge.specs.declared.status.Status.{Status}
-use Rattle.answer_edge.specs.declared.status.Status.TheVariants.{Solved, Spent, No, BadWords, BadText, TooWide, ReadFault, WriteFault, NoMemory, LinkFault, LinkDiffers, TooMany}
-use Rattle.answer_edge.specs.Input.{SourceState}
-use Rattle.answer_edge.specs.Output.{SinkState}
-use Rattle.answer_edge.specs.Showing.{Shows, StaysUnless}
-use Rattle.answer_edge.specs.Statuses.{status_of}
-use Rattle.answer_edge.proofs.ShowLaws as shows
+use Rattle.answer_io.specs.declared.status.Status.{Status}
+use Rattle.answer_io.specs.declared.status.Status.TheVariants.{Solved, Spent, No, BadWords, BadText, TooWide, ReadFault, WriteFault, NoMemory, LinkFault, LinkDiffers, TooMany}
+use Rattle.answer_io.specs.Input.{SourceState}
+use Rattle.answer_io.specs.Output.{SinkState}
+use Rattle.answer_io.specs.Showing.{Shows, StaysUnless}
+use Rattle.answer_io.specs.Statuses.{status_of}
+use Rattle.answer_io.proofs.ShowLaws as shows
 use Rattle.solve_words.specs.declared.command.Format.TheVariants.{Dcop as Own}
 use Rattle.solve_top.specs.declared.task.Task.TheVariants.{File}
 use Rattle.solve_top.specs.Nodes.{AskForNodes, TellsAnswer}

@@ -20,18 +20,18 @@ use Rattle.solve_methods.specs.Auto.{AnswersAuto}
 use Rattle.solve_methods.specs.Drill.{drilled}
 use Rattle.solve_methods.specs.Goal.{TellsRight}
 use Rattle.solve_methods.specs.Dpop.{AnswersDpop}
-use Rattle.answer_edge.specs.Input.{Input, Unread, Broken, TooLong, Whole}
-use Rattle.solve_inputs.specs.Told.{Told, told_of}
-use Rattle.solve_inputs.specs.Inputs.{input_read}
-use Rattle.solve_inputs.specs.Fronts.{front_read, lines_in}
+use Rattle.answer_io.specs.Input.{Input, Unread, Broken, TooLong, Whole}
+use Rattle.answer_io.specs.InputTold.{Told, told_of}
+use Rattle.answer_io.specs.Inputs.{input_read}
+use Rattle.answer_io.specs.Fronts.{front_read, lines_in}
 use Rattle.solve_words.specs.Kinds.{number_of_words}
 use Rattle.solve_methods.specs.Plain.{IsPlainReport, HasFirstOptimum, IsTooMany}
 use Rattle.solve_top.specs.Served.{task_of}
 use Rattle.solve_top.specs.Drilling.{drill_of, made_for}
 use Rattle.solve_top.specs.declared.drilling.Drill.{Drill}
 use Rattle.solve_methods.specs.Tree.{AnswersTree}
-use Rattle.solve_check.specs.Checking.{AnswersCheck}
-use Rattle.solve_replay.specs.Replaying.{AnswersReplay}
+use Rattle.solve_printed.specs.Checking.{AnswersCheck}
+use Rattle.solve_printed.specs.Replaying.{AnswersReplay}
 use Rattle.solve_cut.specs.Cut.{AnswersCut}
 use Rattle.solve_edit.specs.Editing.{AnswersEdit}
 use Rattle.solve_words.specs.declared.command.Format.TheVariants.{Dcop as Own}

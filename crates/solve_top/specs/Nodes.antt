@@ -13,17 +13,17 @@ use Rattle.tcp_links.specs.declared.fault.NodeFault.TheVariants.{Failed, Differs
 use Rattle.problem_text.specs.Declarations.{Declared}
 use Rattle.problem_text.specs.File.{TextFile}
 use Rattle.problem_text.specs.Steps.{declared_by}
-use Rattle.problem_solved.specs.Goal.{problem_solved}
+use Rattle.minimised_problem.specs.Goal.{problem_solved}
 use Rattle.solve_words.specs.declared.command.Command.{Command}
 use Rattle.solve_words.specs.declared.command.Command.TheVariants.{Solve, Drill}
 use Rattle.solve_words.specs.Command.{answer_to}
 use Rattle.solve_report.specs.declared.answer.Answer.{Answer}
 use Rattle.solve_report.specs.declared.answer.Answer.TheVariants as answers
-use Rattle.answer_edge.specs.declared.status.Status.TheVariants.{LinkFault, LinkDiffers}
-use Rattle.answer_edge.specs.Statuses.{status_of}
-use Rattle.answer_edge.specs.Input.{Input, Unread, Whole}
-use Rattle.solve_inputs.specs.Told.{Told, told_of}
-use Rattle.solve_inputs.specs.Inputs.{input_read}
+use Rattle.answer_io.specs.declared.status.Status.TheVariants.{LinkFault, LinkDiffers}
+use Rattle.answer_io.specs.Statuses.{status_of}
+use Rattle.answer_io.specs.Input.{Input, Unread, Whole}
+use Rattle.answer_io.specs.InputTold.{Told, told_of}
+use Rattle.answer_io.specs.Inputs.{input_read}
 use Rattle.solve_agents.specs.Differing.{HaveDiffered}
 use Rattle.solve_top.specs.Answering.{IsTextAnswer, IsTaskAnswer, IsDrillAnswer, IsUnreadAnswer}
 use Rattle.solve_top.specs.Served.{task_of}

@@ -16,15 +16,15 @@ use Rattle.solve_top.specs.declared.task.Task.TheVariants.{File}
 use Rattle.solve_top.specs.declared.task.FileTask.TheVariants as tasks
 use Rattle.solve_top.specs.Answering.{IsAnswer}
 use Rattle.solve_top.specs.Nodes.{IsLinkAnswer}
-use Rattle.answer_edge.specs.declared.status.Status.TheVariants.{Solved}
-use Rattle.answer_edge.specs.Statuses.{status_of}
-use Rattle.answer_edge.specs.Input.{Input, Whole}
+use Rattle.answer_io.specs.declared.status.Status.TheVariants.{Solved}
+use Rattle.answer_io.specs.Statuses.{status_of}
+use Rattle.answer_io.specs.Input.{Input, Whole}
 use Rattle.solve_top.specs.Served.{task_of}
 use Rattle.solve_top.specs.Drilling.{drill_of}
 use Rattle.solve_top.specs.declared.drilling.Drill.{Drill}
 use Rattle.solve_top.specs.Solving.{HasFitTree}
-use Rattle.solve_inputs.specs.Told.{Told}
-use Rattle.solve_inputs.specs.Inputs.{input_read, declared_in}
+use Rattle.answer_io.specs.InputTold.{Told}
+use Rattle.answer_io.specs.Inputs.{input_read, declared_in}
 
 -- these words ask for DPOP on a problem in this format, with or without a certificate
 pub record AskForDpop (format : Format) (certified : Bool) (words : List (List ℕ)) : Type 0 where

@@ -19,8 +19,8 @@ use Rattle.solve_words.specs.declared.command.Format.{Format}
 use Rattle.solve_words.specs.declared.command.Format.TheVariants.{Dcop as Own}
 use Rattle.solve_words.specs.Command.{answer_to}
 use Rattle.solve_report.specs.declared.answer.Answer.{Answer}
-use Rattle.answer_edge.specs.declared.status.Status.{Status}
-use Rattle.answer_edge.specs.declared.status.Status.TheVariants as statuses
+use Rattle.answer_io.specs.declared.status.Status.{Status}
+use Rattle.answer_io.specs.declared.status.Status.TheVariants as statuses
 use Rattle.solve_top.specs.declared.task.Task.{Task}
 use Rattle.solve_top.specs.declared.task.Task.TheVariants.{File, Check, Replay, Edit}
 use Rattle.solve_top.specs.declared.task.FileTask.{FileTask}
@@ -30,17 +30,17 @@ use Rattle.solve_top.specs.Nodes.{AskForNodes, IsLinkAnswer, TellsAnswer}
 use Rattle.solve_top.specs.Taken.{AreLinesTaken}
 use Rattle.solve_cut.specs.Allowed.{HasAllowedCut}
 use Rattle.solve_methods.specs.Dpop.{wide_in}
-use Rattle.problem_solved.specs.Goal.{solved}
+use Rattle.minimised_problem.specs.Goal.{solved}
 use Rattle.solve_methods.specs.Goal.{TellsRight}
-use Rattle.answer_edge.specs.Input.{Input, SourceState, IsReadFrom}
-use Rattle.answer_edge.specs.Output.{SinkState}
-use Rattle.answer_edge.specs.Showing.{IsShown, IsCut}
+use Rattle.answer_io.specs.Input.{Input, SourceState, IsReadFrom}
+use Rattle.answer_io.specs.Output.{SinkState}
+use Rattle.answer_io.specs.Showing.{IsShown, IsCut}
 use Rattle.solve_top.specs.Served.{task_of, IsFileTaskInRange}
 use Rattle.solve_top.specs.Drilling.{drill_of, made_for}
 use Rattle.solve_top.specs.declared.drilling.Drill.{Drill}
-use Rattle.solve_inputs.specs.Told.{Told}
-use Rattle.solve_inputs.specs.Inputs.{input_read}
-use Rattle.solve_inputs.specs.Fronts.{front_read, lines_in}
+use Rattle.answer_io.specs.InputTold.{Told}
+use Rattle.answer_io.specs.Inputs.{input_read}
+use Rattle.answer_io.specs.Fronts.{front_read, lines_in}
 
 -- an answer to words, possibly about the links between nodes, with the input read for it from a
 -- source with this state before and this state after

@@ -5,15 +5,15 @@ ghost use Rattle.dcop_base.specs.Limits.{input_limit};
 ghost use Rattle.solve_report.specs.AnswerText.{HasText};
 ghost use Rattle.problem_text.specs.Steps.{declared_by};
 ghost use Rattle.solve_methods.specs.Goal.{TellsRight};
-ghost use Rattle.answer_edge.specs.Input.{source_state};
+ghost use Rattle.answer_io.specs.Input.{source_state};
 ghost use Rattle.solve_top.specs.Answering.{IsFileAnswer, IsTextAnswer, IsReportAnswer, IsTaskAnswer, IsUpgraded};
 ghost use Rattle.solve_top.specs.Nodes.{AskForNodes, IsAnswerIn, IsAnswerRead, IsTaskAnswerIn, TellsLinks};
 ghost use Rattle.solve_top.specs.Served.{IsTaskInRange, IsFileTaskInRange};
 ghost use Rattle.solve_top.specs.Solving.{Answered};
-ghost use Rattle.solve_inputs.specs.Told.{told_of};
-ghost use Rattle.solve_inputs.specs.Gives.{IsInput};
-ghost use Rattle.solve_inputs.specs.Inputs.{input_read};
-ghost use Rattle.solve_inputs.specs.Fronts.{front_read};
+ghost use Rattle.answer_io.specs.InputTold.{told_of};
+ghost use Rattle.answer_io.specs.Gives.{IsInput};
+ghost use Rattle.answer_io.specs.Inputs.{input_read};
+ghost use Rattle.answer_io.specs.Fronts.{front_read};
 
 use crate::cutting::by_cut;
 use crate::drilling::unread_answer;
@@ -21,14 +21,16 @@ use crate::editing::edits_behind;
 use crate::methods::{by_adopt, by_auto, by_dpop, by_search};
 use crate::replaying::replay_behind;
 use crate::task::{FileTask, Task, nodes_of, workers_of};
-use answer_edge::{MAX_INPUT, ReadEnd, fault_answer, read_all, words_answer};
+use answer_io::{
+    InputFault, MAX_INPUT, ReadEnd, ReadInput, fault_answer, lines_in, read_all, read_front,
+    read_input, wcsp_answer, words_answer,
+};
 use dcop_base::{Bytes, NoMemory};
 use dcop_edge::{Gate, Source};
 use problem_text::{ProblemFile, TextKind};
 use solve_agents::Crew;
-use solve_check::check_answer;
-use solve_inputs::{InputFault, ReadInput, lines_in, read_front, read_input, wcsp_answer};
 use solve_methods::{Asked, plain_answer};
+use solve_printed::check_answer;
 use solve_report::Answer;
 use solve_words::{Format, WordFault, WordKind, read_words};
 use std::alloc::{AllocGlobal, Global};
@@ -37,7 +39,7 @@ use std::random::RandomSource;
 use std::sync::Wait;
 use std::thread::Threads;
 use std::time::Clock;
-use wire_edge::Dialer;
+use wire_pump::Dialer;
 
 /// Finds the answer to words, and reads all that the source has left if they need an input.
 ///

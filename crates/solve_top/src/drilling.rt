@@ -10,11 +10,11 @@ ghost use Rattle.solve_top.specs.Served.{task_of};
 
 use crate::answering::file_answer;
 use crate::task::FileTask;
+use answer_io::ReadInput;
 use dcop_base::NoMemory;
 use dcop_edge::Gate;
 use instance_make::make_problem;
 use solve_agents::Crew;
-use solve_inputs::ReadInput;
 use solve_methods::drill_answer;
 use solve_report::Answer;
 use solve_words::Command;
@@ -24,7 +24,7 @@ use std::random::RandomSource;
 use std::sync::Wait;
 use std::thread::Threads;
 use std::time::Clock;
-use wire_edge::Dialer;
+use wire_pump::Dialer;
 
 /// A problem to make from a number, and how to solve it.
 #[derive(Clone, Copy, Debug, PartialEq, Eq)]

@@ -16,7 +16,7 @@ mod replaying;
 mod task;
 mod top;
 
-pub use answer_edge::{MAX_INPUT, Status};
+pub use answer_io::{MAX_INPUT, Status};
 pub use answering::answer_of;
 pub use law::{
     auto_answers_are_those_of_dpop, dpop_answers_are_one, drill_answers_are_one,

@@ -25,7 +25,7 @@ use std::random::RandomSource;
 use std::sync::Wait;
 use std::thread::Threads;
 use std::time::Clock;
-use wire_edge::Dialer;
+use wire_pump::Dialer;
 
 /// The answer of `tree` on a file.
 pub(crate) fn by_search<R: Threads + Sync, G: Gate>(

@@ -2,15 +2,14 @@
 
 ghost use Rattle.std.specs.Prelude.{◌≡◌, ◌≤◌, length, IfOk};
 ghost use Rattle.dcop_base.specs.Limits.{input_limit};
-ghost use Rattle.solve_inputs.specs.Fronts.{front_read};
+ghost use Rattle.answer_io.specs.Fronts.{front_read};
 ghost use Rattle.solve_methods.specs.Goal.{TellsRight};
 ghost use Rattle.solve_report.specs.AnswerText.{HasText};
 ghost use Rattle.solve_top.specs.Answering.{IsReplayAnswer};
 
-use answer_edge::fault_answer;
+use answer_io::{InputFault, fault_answer, lines_in, read_front, wcsp_answer};
 use dcop_base::NoMemory;
-use solve_inputs::{InputFault, lines_in, read_front, wcsp_answer};
-use solve_replay::replay_answer;
+use solve_printed::replay_answer;
 use solve_report::Answer;
 use solve_words::Format;
 use std::alloc::Global;

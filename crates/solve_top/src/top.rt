@@ -2,15 +2,15 @@
 
 ghost use Rattle.std.specs.Prelude.{◌≡◌, ◌≢◌, ◌⊎◌, ℕ, List, Some, map, string_bytes};
 ghost use Rattle.dcop_edge.specs.Faults.{Rose};
-ghost use Rattle.answer_edge.specs.Input.{source_state};
-ghost use Rattle.answer_edge.specs.Output.{sink_state};
-ghost use Rattle.answer_edge.specs.Showing.{StaysUnless};
+ghost use Rattle.answer_io.specs.Input.{source_state};
+ghost use Rattle.answer_io.specs.Output.{sink_state};
+ghost use Rattle.answer_io.specs.Showing.{StaysUnless};
 ghost use Rattle.solve_top.specs.Nodes.{AskForNodes};
 ghost use Rattle.solve_top.specs.Solving.{Solves, Accepts, AsksDrill, GoesWell};
 
 use crate::answering::answer_of;
 use crate::task::Task;
-use answer_edge::{Status, show};
+use answer_io::{Status, show};
 use dcop_edge::{Gate, Sink, Source};
 use solve_words::Format;
 use std::alloc::Global;
@@ -19,7 +19,7 @@ use std::random::RandomSource;
 use std::sync::Wait;
 use std::thread::Threads;
 use std::time::Clock;
-use wire_edge::Dialer;
+use wire_pump::Dialer;
 
 /// Answers these words, which are the arguments of the program: reads the source as they ask,
 /// writes the answer to the sink, and gives the status.

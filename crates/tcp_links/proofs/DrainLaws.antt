@@ -12,9 +12,9 @@ use Rattle.protocol_steps.specs.declared.message.Message.{Message}
 use Rattle.protocol_steps.specs.View.{View}
 use Rattle.fifo_links.specs.declared.ends.LinkHead.{LinkHead}
 use Rattle.fifo_links.specs.Link.{AreEnds, sent_on, backlog_of, taken_from, known_to, SameHead, HasTaken}
-use Rattle.worker_runs.specs.Cells.{CellState, Lane, peers, lane}
-use Rattle.worker_runs.specs.Visits.{IsQuiet}
-use Rattle.worker_runs.proofs.LaneLaws.{once, lane_none, has_from_contains}
+use Rattle.worker_laws.specs.Cells.{CellState, Lane, peers, lane}
+use Rattle.worker_laws.specs.Visits.{IsQuiet}
+use Rattle.worker_laws.proofs.LaneLaws.{once, lane_none, has_from_contains}
 use Rattle.agent_cells.specs.declared.cell.Cell.{Cell}
 use Rattle.agent_cells.specs.Links.{Tail, Head, lanes_sent, AreSameTails, AreSameHeads}
 use Rattle.agent_cells.specs.Settled.{StandsAt, TailJoins, SettlesTail, TailIsSettled}

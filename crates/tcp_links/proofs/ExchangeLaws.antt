@@ -14,16 +14,16 @@ use Rattle.protocol_steps.proofs.PrivateLaws.{contains_from_has}
 use Rattle.fifo_links.specs.declared.ends.LinkTail.{LinkTail}
 use Rattle.fifo_links.specs.declared.ends.LinkHead.{LinkHead}
 use Rattle.fifo_links.specs.Link.{sent_on, taken_from, SameHead, SameTail}
-use Rattle.worker_runs.specs.Cells.{CellState, Lane, peers, lane, EachAre}
-use Rattle.worker_runs.specs.Visits.{IsQuiet}
-use Rattle.worker_runs.specs.NodeRounds.{home}
-use Rattle.worker_runs.proofs.LaneLaws.{lane_none}
-use Rattle.worker_runs.proofs.EachLaws.{there, each_on, each_long}
-use Rattle.node_runs.specs.Wires.{Passage, Wire, IsSame, HasHeld, HaveHeld, AreApart, HasPassed}
-use Rattle.node_runs.specs.Exchanges.{IsExchange}
-use Rattle.node_runs.specs.Links.{IsLinkExchanged, LeadsNone, SayNothing}
-use Rattle.node_runs.proofs.LinkLaws.{links_are_exchanged}
-use Rattle.kept_wires.specs.Keeping.{passage_of, keeps}
+use Rattle.worker_laws.specs.Cells.{CellState, Lane, peers, lane, EachAre}
+use Rattle.worker_laws.specs.Visits.{IsQuiet}
+use Rattle.worker_laws.specs.OneNode.{home}
+use Rattle.worker_laws.proofs.LaneLaws.{lane_none}
+use Rattle.worker_laws.proofs.EachLaws.{there, each_on, each_long}
+use Rattle.worker_laws.specs.Wires.{Passage, Wire, IsSame, HasHeld, HaveHeld, AreApart, HasPassed}
+use Rattle.worker_laws.specs.Exchanges.{IsExchange}
+use Rattle.worker_laws.specs.Links.{IsLinkExchanged, LeadsNone, SayNothing}
+use Rattle.worker_laws.proofs.LinkLaws.{links_are_exchanged}
+use Rattle.link_records.specs.Keeping.{passage_of, keeps}
 use Rattle.agent_cells.specs.declared.cell.Cell.{Cell}
 use Rattle.agent_cells.specs.Settled.{TailJoins, HeadJoins}
 use Rattle.agent_cells.specs.State.{state_of, tails_in, heads_in, IsCell}
@@ -32,10 +32,10 @@ use Rattle.agent_workers.specs.Joined.{states_of, EachIs, EachBecomes, IsJoined}
 use Rattle.agent_workers.specs.Settled.{StaysQuiet}
 use Rattle.agent_workers.proofs.ListLaws.{map_back, each_are, one_at}
 use Rattle.agent_workers.proofs.JoinLaws.{stood, quiet_same, joined_still, each_stays_then}
-use Rattle.node_letters.specs.Passings.{Passing, SamePassing, AreAcross, NothingCame, AllCame, emptied as emptied_of}
-use Rattle.letter_wires.specs.declared.fault.PassFault.{PassFault}
-use Rattle.letter_wires.specs.declared.fault.PassFault.TheVariants.{Failed, Bytes, NoMemory}
-use Rattle.letter_wires.specs.Faults.{IsByteBetween, IsByteFault, IsNoDifference as passes_no_difference}
+use Rattle.node_exchange.specs.Passings.{Passing, SamePassing, AreAcross, NothingCame, AllCame, emptied as emptied_of}
+use Rattle.node_exchange.specs.declared.fault.PassFault.{PassFault}
+use Rattle.node_exchange.specs.declared.fault.PassFault.TheVariants.{Failed, Bytes, NoMemory}
+use Rattle.node_exchange.specs.Faults.{IsByteBetween, IsByteFault, IsNoDifference as passes_no_difference}
 use Rattle.tcp_links.specs.declared.plan.InnerEnds.{InnerEnds}
 use Rattle.tcp_links.specs.declared.plan.NodePlan.{NodePlan}
 use Rattle.tcp_links.specs.Plans.{AreOrdered, IsBetween, pair_count, IsPlan}

@@ -12,10 +12,10 @@ use Rattle.protocol_steps.specs.declared.message.Message.{Message}
 use Rattle.protocol_steps.specs.View.{View}
 use Rattle.fifo_links.specs.declared.ends.LinkTail.{LinkTail}
 use Rattle.fifo_links.specs.Link.{AreEnds, sent_on, backlog_of, taken_from, known_to, SameTail, IsSettled as settled_link}
-use Rattle.worker_runs.specs.Cells.{CellState, Lane, lane, peers}
-use Rattle.worker_runs.specs.Visits.{IsQuiet}
-use Rattle.worker_runs.specs.CellRounds.{IsSettled}
-use Rattle.worker_runs.proofs.LaneLaws.{has_from_contains, once, lane_none}
+use Rattle.worker_laws.specs.Cells.{CellState, Lane, lane, peers}
+use Rattle.worker_laws.specs.Visits.{IsQuiet}
+use Rattle.worker_laws.specs.CellRounds.{IsSettled}
+use Rattle.worker_laws.proofs.LaneLaws.{has_from_contains, once, lane_none}
 use Rattle.agent_cells.specs.declared.cell.Cell.{Cell}
 use Rattle.agent_cells.specs.Links.{Tail, Head, lanes_sent, lanes_taken, known_of, AreSameTails, AreSameHeads}
 use Rattle.agent_cells.specs.Settled.{StandsAt, HeadJoins, SettlesHead, HeadIsSettled, EndsAreSettled}

@@ -5,10 +5,10 @@ use Rattle.std.proofs.lemmas.List.{append-nil}
 use Rattle.std.proofs.lemmas.List.Concat.{flat_map-append}
 use Rattle.protocol_steps.specs.declared.message.Message.{Message}
 use Rattle.fifo_links.specs.Link.{sent_on, taken_from}
-use Rattle.worker_runs.specs.Cells.{CellState, lane}
-use Rattle.node_runs.specs.Wires.{Passage, Wire}
-use Rattle.node_runs.specs.Links.{IsLinkExchanged}
-use Rattle.kept_wires.specs.Keeping.{passage_of, keeps}
+use Rattle.worker_laws.specs.Cells.{CellState, lane}
+use Rattle.worker_laws.specs.Wires.{Passage, Wire}
+use Rattle.worker_laws.specs.Links.{IsLinkExchanged}
+use Rattle.link_records.specs.Keeping.{passage_of, keeps}
 use Rattle.tcp_links.specs.declared.plan.InnerEnds.{InnerEnds}
 use Rattle.tcp_links.specs.Drains.{HasDrained}
 use Rattle.tcp_links.specs.Feeds.{AllWaits}

@@ -4,9 +4,9 @@ use Rattle.std.specs.List.{All, slice_get, insert}
 use Rattle.std.proofs.lemmas.Bool.{cases_order}
 use Rattle.std.proofs.lemmas.Option.{same_Some}
 use Rattle.std.proofs.lemmas.List.Elements.{All-append, All-cons, All-take, All-drop}
-use Rattle.worker_runs.proofs.EachLaws.{each_back}
-use Rattle.node_runs.specs.Wires.{Wire, AreApart, HasPassed, ArePassedOn}
-use Rattle.kept_wires.specs.Differences.{ComesBefore}
+use Rattle.worker_laws.proofs.EachLaws.{each_back}
+use Rattle.worker_laws.specs.Wires.{Wire, AreApart, HasPassed, ArePassedOn}
+use Rattle.link_records.specs.Differences.{ComesBefore}
 use Rattle.tcp_links.specs.Plans.{AreOrdered, BelongsAt, fresh_link}
 
 -- what stands in a list with one element more at a place

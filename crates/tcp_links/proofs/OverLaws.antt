@@ -13,22 +13,22 @@ use Rattle.protocol_steps.specs.declared.run_end.RunEnd.{RunEnd}
 use Rattle.protocol_steps.specs.View.{View}
 use Rattle.protocol_steps.specs.Rounds.{most_events}
 use Rattle.protocol_steps.specs.Stamps.{Deed}
-use Rattle.worker_runs.specs.Acts.{IsLater, entry_of, journal_of}
-use Rattle.worker_runs.specs.Sprints.{IsSprint}
-use Rattle.worker_runs.specs.Cells.{CellState, peers, lane, EachAre}
-use Rattle.worker_runs.specs.Visits.{IsFrom, IsQuiet}
-use Rattle.worker_runs.specs.CellRounds.{total}
-use Rattle.worker_runs.specs.CellRuns.{all_ended}
-use Rattle.worker_runs.specs.NodeRounds.{home, IsPartRound}
-use Rattle.worker_runs.specs.StampCounts.{IsMoved}
-use Rattle.worker_runs.proofs.LaneLaws.{grown_none}
-use Rattle.worker_runs.proofs.EachLaws.{each_long, each_on}
-use Rattle.worker_runs.proofs.VisitLaws.{totals_add}
-use Rattle.node_runs.specs.Wires.{Wire}
-use Rattle.node_runs.specs.Exchanges.{IsExchange}
-use Rattle.node_runs.specs.NodeRounds.{IsNodeRound, AreNodeRounds, ArePlayedOver}
-use Rattle.node_runs.specs.NodeStamps.{HasOnlyTaken}
-use Rattle.node_runs.proofs.RoundLaws.{node_rounds_push}
+use Rattle.worker_laws.specs.Acts.{IsLater, entry_of, journal_of}
+use Rattle.worker_laws.specs.Sprints.{IsSprint}
+use Rattle.worker_laws.specs.Cells.{CellState, peers, lane, EachAre}
+use Rattle.worker_laws.specs.Visits.{IsFrom, IsQuiet}
+use Rattle.worker_laws.specs.CellRounds.{total}
+use Rattle.worker_laws.specs.CellRuns.{all_ended}
+use Rattle.worker_laws.specs.OneNode.{home, IsPartRound}
+use Rattle.worker_laws.specs.StampCounts.{IsMoved}
+use Rattle.worker_laws.proofs.LaneLaws.{grown_none}
+use Rattle.worker_laws.proofs.EachLaws.{each_long, each_on}
+use Rattle.worker_laws.proofs.VisitLaws.{totals_add}
+use Rattle.worker_laws.specs.Wires.{Wire}
+use Rattle.worker_laws.specs.Exchanges.{IsExchange}
+use Rattle.worker_laws.specs.NodeRounds.{IsNodeRound, AreNodeRounds, ArePlayedOver}
+use Rattle.worker_laws.specs.NodeStamps.{HasOnlyTaken}
+use Rattle.worker_laws.proofs.RoundLaws.{node_rounds_push}
 use Rattle.agent_cells.specs.declared.cell.Cell.{Cell}
 use Rattle.agent_cells.specs.declared.fault.VisitFault.TheVariants.{StampEnd}
 use Rattle.agent_cells.specs.State.{state_of, fault_in, tails_in, heads_in}
@@ -47,7 +47,7 @@ use Rattle.tcp_links.specs.declared.plan.NodePlan.{NodePlan}
 use Rattle.tcp_links.specs.Faults.{HasNodeCause}
 use Rattle.tcp_links.specs.Woven.{AreIdle, SentWasDrained, FedWasTaken, HaveCaughtUp, AreWoven}
 use Rattle.tcp_links.specs.Over.{IsDrainedOf, AreReady, IsPlanOver, HasExchanged, HasPassedOther, IsExchangeFault, ArePlayedSo, IsIdleOver, ArePlayedOutOver, HasBrokenOver, HasRoundOver, HasBrokenRound, ArePlayedTo}
-use Rattle.letter_wires.specs.Faults.{IsByteBetween}
+use Rattle.node_exchange.specs.Faults.{IsByteBetween}
 use Rattle.tcp_links.specs.Ends.{AreThere, HasOtherByte, IsFaultOver}
 use Rattle.tcp_links.proofs.DrainLaws.{tail_still, head_none}
 use Rattle.tcp_links.proofs.FeedLaws.{heads_still}

@@ -3,13 +3,13 @@ use Rattle.std.proofs.Common.{◌≡◌, ◌≢◌, ℕ, zero, suc, ◌+◌, ◌
 use Rattle.std.specs.List.{All, insert, remove}
 use Rattle.std.proofs.lemmas.List.Edits.{length-insert}
 use Rattle.protocol_steps.specs.declared.message.Message.{Message}
-use Rattle.worker_runs.specs.NodeRounds.{home}
-use Rattle.node_runs.specs.Wires.{Passage, Wire, AreApart}
+use Rattle.worker_laws.specs.OneNode.{home}
+use Rattle.worker_laws.specs.Wires.{Passage, Wire, AreApart}
 use Rattle.fifo_links.specs.declared.ends.LinkTail.{LinkTail}
 use Rattle.fifo_links.specs.declared.ends.LinkHead.{LinkHead}
 use Rattle.fifo_links.specs.Link.{AreEnds, sent_on, taken_from}
-use Rattle.wire_edge.specs.Wire.{Told}
-use Rattle.wire_edge.specs.Dialer.{TellsNothing}
+use Rattle.wire_pump.specs.Wire.{Told}
+use Rattle.wire_pump.specs.Dialer.{TellsNothing}
 use Rattle.wire_pump.specs.Pump.{HaveAll}
 use Rattle.tcp_links.specs.declared.plan.InnerEnds.{InnerEnds}
 use Rattle.tcp_links.specs.declared.plan.NodePlan.{NodePlan}

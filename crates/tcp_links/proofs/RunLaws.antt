@@ -11,19 +11,19 @@ use Rattle.protocol_steps.specs.declared.message.Message.{Message as Sent}
 use Rattle.protocol_steps.specs.declared.run_end.RunEnd.{RunEnd}
 use Rattle.protocol_steps.specs.declared.run_end.RunEnd.TheVariants.{AllEnded, Spent, Still}
 use Rattle.protocol_steps.specs.View.{View, ended_of}
-use Rattle.worker_runs.specs.Cells.{CellState, IsWired, EachAre}
-use Rattle.worker_runs.specs.Visits.{IsStarted, IsQuiet}
-use Rattle.worker_runs.specs.CellRounds.{AreStarted, total}
-use Rattle.worker_runs.specs.CellRuns.{all_ended, MakesARun}
-use Rattle.worker_runs.specs.NodeRounds.{home}
-use Rattle.worker_runs.proofs.EachLaws.{there, each_back}
-use Rattle.worker_runs.proofs.VisitLaws.{totals_add}
-use Rattle.node_runs.specs.Wires.{Passage, Wire, IsSame, HasHeld, HaveHeld}
-use Rattle.node_runs.specs.Exchanges.{IsExchange}
-use Rattle.node_runs.specs.NodeRounds.{IsNodeEnd, ArePlayedOver}
-use Rattle.node_runs.specs.NodeRuns.{IsAsInOneNode}
-use Rattle.node_runs.proofs.RunLaws.{nodes_are_one, played_nodes_make_runs}
-use Rattle.node_runs.proofs.StampLaws.{node_stamps_are_few}
+use Rattle.worker_laws.specs.Cells.{CellState, IsWired, EachAre}
+use Rattle.worker_laws.specs.Visits.{IsStarted, IsQuiet}
+use Rattle.worker_laws.specs.CellRounds.{AreStarted, total}
+use Rattle.worker_laws.specs.CellRuns.{all_ended, MakesARun}
+use Rattle.worker_laws.specs.OneNode.{home}
+use Rattle.worker_laws.proofs.EachLaws.{there, each_back}
+use Rattle.worker_laws.proofs.VisitLaws.{totals_add}
+use Rattle.worker_laws.specs.Wires.{Passage, Wire, IsSame, HasHeld, HaveHeld}
+use Rattle.worker_laws.specs.Exchanges.{IsExchange}
+use Rattle.worker_laws.specs.NodeRounds.{IsNodeEnd, ArePlayedOver}
+use Rattle.worker_laws.specs.NodeRuns.{IsAsInOneNode}
+use Rattle.worker_laws.proofs.RunLaws.{nodes_are_one, played_nodes_make_runs}
+use Rattle.worker_laws.proofs.StampLaws.{node_stamps_are_few}
 use Rattle.agent_cells.specs.declared.cell.Cell.{Cell}
 use Rattle.agent_cells.specs.declared.fault.VisitFault.TheVariants.{StampEnd}
 use Rattle.agent_cells.specs.State.{state_of}

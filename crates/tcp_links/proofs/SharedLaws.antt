@@ -5,10 +5,10 @@ use Rattle.std.specs.declared.dyn_box.DynBox.{DynBox}
 use Rattle.std.specs.declared.alloc.Global.{Global}
 use Rattle.protocol_steps.specs.declared.run_end.RunEnd.{RunEnd}
 use Rattle.protocol_steps.specs.View.{View}
-use Rattle.worker_runs.specs.Cells.{CellState}
-use Rattle.worker_runs.specs.CellRounds.{total}
-use Rattle.worker_runs.specs.CellRuns.{all_ended}
-use Rattle.worker_runs.specs.NodeRounds.{home}
+use Rattle.worker_laws.specs.Cells.{CellState}
+use Rattle.worker_laws.specs.CellRounds.{total}
+use Rattle.worker_laws.specs.CellRuns.{all_ended}
+use Rattle.worker_laws.specs.OneNode.{home}
 use Rattle.agent_cells.specs.declared.cell.Cell.{Cell}
 use Rattle.agent_workers.specs.Joined.{states_of, EachBecomes}
 use Rattle.agent_workers.specs.Settled.{StaysQuiet}

@@ -12,10 +12,10 @@ use Rattle.protocol_steps.specs.View.{View}
 use Rattle.protocol_steps.specs.Rounds.{link_share}
 use Rattle.fifo_links.specs.declared.ends.LinkTail.{LinkTail}
 use Rattle.fifo_links.specs.Link.{SameHead, SameTail, sent_on, taken_from}
-use Rattle.worker_runs.specs.Cells.{Lane, lane, peers, known_from}
-use Rattle.worker_runs.proofs.EachLaws.{there}
-use Rattle.node_runs.specs.Wires.{Passage, Wire, AreApart}
-use Rattle.kept_wires.specs.Keeping.{keeps}
+use Rattle.worker_laws.specs.Cells.{Lane, lane, peers, known_from}
+use Rattle.worker_laws.proofs.EachLaws.{there}
+use Rattle.worker_laws.specs.Wires.{Passage, Wire, AreApart}
+use Rattle.link_records.specs.Keeping.{keeps}
 use Rattle.agent_cells.specs.declared.cell.Cell.{Cell}
 use Rattle.agent_cells.specs.Settled.{TailJoins, HeadJoins}
 use Rattle.agent_cells.specs.State.{state_of, tails_in, heads_in, IsCell}
@@ -29,7 +29,7 @@ use Rattle.tcp_links.specs.declared.plan.InnerEnds.{InnerEnds}
 use Rattle.tcp_links.specs.Drains.{HasDrained}
 use Rattle.tcp_links.specs.Feeds.{AllWaits}
 use Rattle.tcp_links.specs.Woven.{IsIdle, AreIdle, AreLinksOf, AreEmptied, CanDrain, CanDrainAll, CanFeed, CanFeedAll, AreStill, SentIsDrained, FedIsTaken, HasDrainedLink, HaveDrained, HasFedLink, HaveFed, KnowsElse, IsPassingOf}
-use Rattle.node_letters.specs.Passings.{Passing, holding, emptied}
+use Rattle.node_exchange.specs.Passings.{Passing, holding, emptied}
 use Rattle.tcp_links.proofs.DrainLaws.{tail_still, head_none, drained_none as nothing_drained}
 use Rattle.tcp_links.proofs.FeedLaws.{heads_still, tail_none}
 

@@ -2,20 +2,20 @@
 use Rattle.std.specs.Prelude.{◌≡◌, ℕ, ◌+◌, ◌⊎◌, List, length, Option}
 use Rattle.protocol_steps.specs.declared.message.Message.{Message as Sent}
 use Rattle.protocol_steps.specs.View.{View}
-use Rattle.worker_runs.specs.Cells.{CellState, EachAre}
-use Rattle.worker_runs.specs.CellRounds.{AreStarted}
-use Rattle.worker_runs.specs.NodeRounds.{home}
-use Rattle.node_runs.specs.Wires.{Wire, HaveHeld}
-use Rattle.node_runs.specs.NodeRounds.{IsNodeEnd, ArePlayedOver}
-use Rattle.node_runs.specs.NodeStamps.{AreBrokenOver}
-use Rattle.kept_wires.specs.Differences.{Differs as DifferKept}
+use Rattle.worker_laws.specs.Cells.{CellState, EachAre}
+use Rattle.worker_laws.specs.CellRounds.{AreStarted}
+use Rattle.worker_laws.specs.OneNode.{home}
+use Rattle.worker_laws.specs.Wires.{Wire, HaveHeld}
+use Rattle.worker_laws.specs.NodeRounds.{IsNodeEnd, ArePlayedOver}
+use Rattle.worker_laws.specs.NodeStamps.{AreBrokenOver}
+use Rattle.link_records.specs.Differences.{Differs as DifferKept}
 use Rattle.tcp_links.specs.declared.fault.Difference.{Difference}
 use Rattle.tcp_links.specs.declared.fault.Difference.TheVariants.{Message, Bytes}
 use Rattle.tcp_links.specs.declared.fault.NodeFault.{NodeFault}
 use Rattle.tcp_links.specs.declared.fault.NodeFault.TheVariants.{Failed, Differs, NoMemory}
 use Rattle.tcp_links.specs.declared.plan.NodePlan.{NodePlan}
-use Rattle.letter_wires.specs.Faults.{IsByteBetween}
-use Rattle.node_letters.specs.Passings.{Passing}
+use Rattle.node_exchange.specs.Faults.{IsByteBetween}
+use Rattle.node_exchange.specs.Passings.{Passing}
 use Rattle.tcp_links.specs.Over.{IsDrainedOf}
 
 -- from the start on, cells were played in `count` rounds, the last of which may have been broken

@@ -1,12 +1,12 @@
 -- Why an exchange failed, and what a fault says of a dialer's count.
 use Rattle.std.specs.Prelude.{◌≡◌, ℕ, ◌≤◌, List, Result, Ok, Err}
 use Rattle.dcop_edge.specs.Faults.{Rose}
-use Rattle.node_runs.specs.Wires.{Wire}
-use Rattle.kept_wires.specs.Differences.{Differs as DifferKept}
-use Rattle.letter_wires.specs.declared.fault.PassFault.{PassFault}
-use Rattle.letter_wires.specs.declared.fault.PassFault.TheVariants.{Failed as pass_failed, Bytes as pass_bytes, NoMemory as no_pass_memory}
-use Rattle.letter_wires.specs.Faults.{IsByteBetween}
-use Rattle.node_letters.specs.Passings.{Passing}
+use Rattle.worker_laws.specs.Wires.{Wire}
+use Rattle.link_records.specs.Differences.{Differs as DifferKept}
+use Rattle.node_exchange.specs.declared.fault.PassFault.{PassFault}
+use Rattle.node_exchange.specs.declared.fault.PassFault.TheVariants.{Failed as pass_failed, Bytes as pass_bytes, NoMemory as no_pass_memory}
+use Rattle.node_exchange.specs.Faults.{IsByteBetween}
+use Rattle.node_exchange.specs.Passings.{Passing}
 use Rattle.tcp_links.specs.declared.fault.Difference.{Difference}
 use Rattle.tcp_links.specs.declared.fault.Difference.TheVariants.{Message, Bytes}
 use Rattle.tcp_links.specs.declared.fault.NodeFault.{NodeFault}

@@ -4,7 +4,7 @@ use Rattle.protocol_steps.specs.declared.message.Message.{Message}
 use Rattle.protocol_steps.specs.Rounds.{link_share}
 use Rattle.fifo_links.specs.declared.ends.LinkTail.{LinkTail}
 use Rattle.fifo_links.specs.Link.{sent_on}
-use Rattle.worker_runs.specs.Cells.{CellState, lane, known_from}
+use Rattle.worker_laws.specs.Cells.{CellState, lane, known_from}
 
 -- what the cell took from an agent, and then what waits for it, is all that was fed to the link; of
 -- what waits it knows 64 messages, or all if there are fewer

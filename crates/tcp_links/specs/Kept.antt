@@ -2,7 +2,7 @@
 use Rattle.std.specs.Prelude.{◌≡◌}
 use Rattle.std.specs.List.{flat_map}
 use Rattle.fifo_links.specs.Link.{sent_on, taken_from}
-use Rattle.node_runs.specs.Wires.{Wire}
+use Rattle.worker_laws.specs.Wires.{Wire}
 use Rattle.tcp_links.specs.declared.plan.InnerEnds.{InnerEnds}
 
 -- all that was ever drained of a link is what its passages drained, in order, and all that was ever

@@ -4,9 +4,9 @@ use Rattle.std.specs.List.{Contains}
 use Rattle.std.specs.declared.dyn_box.DynBox.{DynBox}
 use Rattle.std.specs.declared.alloc.Global.{Global}
 use Rattle.protocol_steps.specs.View.{View}
-use Rattle.worker_runs.specs.Cells.{peers}
-use Rattle.worker_runs.specs.NodeRounds.{home}
-use Rattle.node_runs.specs.Wires.{Wire}
+use Rattle.worker_laws.specs.Cells.{peers}
+use Rattle.worker_laws.specs.OneNode.{home}
+use Rattle.worker_laws.specs.Wires.{Wire}
 use Rattle.fifo_links.specs.Link.{sent_on, taken_from}
 use Rattle.agent_cells.specs.declared.cell.Cell.{Cell}
 use Rattle.agent_cells.specs.Settled.{TailJoins, HeadJoins}

@@ -6,15 +6,15 @@ use Rattle.std.specs.declared.alloc.Global.{Global}
 use Rattle.protocol_steps.specs.declared.run_end.RunEnd.{RunEnd}
 use Rattle.protocol_steps.specs.declared.run_end.RunEnd.TheVariants.{AllEnded, Spent, Still}
 use Rattle.protocol_steps.specs.View.{View}
-use Rattle.worker_runs.specs.Cells.{CellState, lane, EachAre}
-use Rattle.worker_runs.specs.CellRounds.{total}
-use Rattle.worker_runs.specs.CellRuns.{all_ended}
-use Rattle.worker_runs.specs.NodeRounds.{home}
-use Rattle.node_runs.specs.Wires.{Wire}
-use Rattle.node_runs.specs.Exchanges.{IsExchange}
-use Rattle.node_runs.specs.NodeRounds.{IsNodeRound, AreNodeRounds, ArePlayedOver}
-use Rattle.node_runs.specs.NodeStamps.{AreBrokenOver}
-use Rattle.worker_runs.specs.StampCounts.{IsMoved}
+use Rattle.worker_laws.specs.Cells.{CellState, lane, EachAre}
+use Rattle.worker_laws.specs.CellRounds.{total}
+use Rattle.worker_laws.specs.CellRuns.{all_ended}
+use Rattle.worker_laws.specs.OneNode.{home}
+use Rattle.worker_laws.specs.Wires.{Wire}
+use Rattle.worker_laws.specs.Exchanges.{IsExchange}
+use Rattle.worker_laws.specs.NodeRounds.{IsNodeRound, AreNodeRounds, ArePlayedOver}
+use Rattle.worker_laws.specs.NodeStamps.{AreBrokenOver}
+use Rattle.worker_laws.specs.StampCounts.{IsMoved}
 use Rattle.agent_cells.specs.declared.cell.Cell.{Cell}
 use Rattle.agent_cells.specs.State.{fault_in}
 use Rattle.agent_cells.specs.declared.fault.VisitFault.TheVariants.{StampEnd}
@@ -29,7 +29,7 @@ use Rattle.tcp_links.specs.declared.fault.NodeFault.{NodeFault}
 use Rattle.tcp_links.specs.declared.fault.NodeFault.TheVariants.{Failed, Differs, NoMemory}
 use Rattle.tcp_links.specs.Plans.{IsPlan}
 use Rattle.tcp_links.specs.Woven.{AreWoven, IsPassingOf, AreIdle, SentWasDrained, FedWasTaken, HaveCaughtUp}
-use Rattle.node_letters.specs.Passings.{Passing}
+use Rattle.node_exchange.specs.Passings.{Passing}
 use Rattle.tcp_links.specs.Faults.{IsByteFault}
 
 -- what an exchange passes on a link is all that its sender has sent and no earlier exchange has

@@ -3,14 +3,14 @@ use Rattle.std.specs.Prelude.{◌≡◌, ◌≢◌, ℕ, ◌-◌, ◌*◌, ◌/�
 use Rattle.std.specs.List.{All, insert}
 use Rattle.dcop_base.specs.Limits.{variable_limit, node_limit}
 use Rattle.protocol_steps.specs.declared.message.Message.{Message}
-use Rattle.worker_runs.specs.NodeRounds.{home}
-use Rattle.node_runs.specs.Wires.{Wire, AreApart}
-use Rattle.kept_wires.specs.Differences.{ComesBefore}
+use Rattle.worker_laws.specs.OneNode.{home}
+use Rattle.worker_laws.specs.Wires.{Wire, AreApart}
+use Rattle.link_records.specs.Differences.{ComesBefore}
 use Rattle.fifo_links.specs.declared.ends.LinkTail.{LinkTail}
 use Rattle.fifo_links.specs.declared.ends.LinkHead.{LinkHead}
 use Rattle.fifo_links.specs.Link.{AreEnds, sent_on, taken_from}
-use Rattle.wire_edge.specs.Wire.{Told}
-use Rattle.letter_wires.specs.Honest.{AreHonest}
+use Rattle.wire_pump.specs.Wire.{Told}
+use Rattle.node_exchange.specs.Honest.{AreHonest}
 use Rattle.tcp_links.specs.declared.plan.InnerEnds.{InnerEnds}
 use Rattle.tcp_links.specs.declared.plan.NodePlan.{NodePlan}
 

@@ -5,11 +5,11 @@ use Rattle.std.specs.declared.dyn_box.DynBox.{DynBox}
 use Rattle.std.specs.declared.alloc.Global.{Global}
 use Rattle.protocol_steps.specs.declared.message.Message.{Message}
 use Rattle.protocol_steps.specs.View.{View}
-use Rattle.worker_runs.specs.Cells.{peers, lane, known_from}
-use Rattle.worker_runs.specs.NodeRounds.{home}
-use Rattle.node_runs.specs.Wires.{Wire, AreApart}
+use Rattle.worker_laws.specs.Cells.{peers, lane, known_from}
+use Rattle.worker_laws.specs.OneNode.{home}
+use Rattle.worker_laws.specs.Wires.{Wire, AreApart}
 use Rattle.fifo_links.specs.Link.{sent_on, taken_from, SameHead, SameTail}
-use Rattle.kept_wires.specs.Keeping.{keeps}
+use Rattle.link_records.specs.Keeping.{keeps}
 use Rattle.agent_cells.specs.declared.cell.Cell.{Cell}
 use Rattle.agent_cells.specs.Settled.{TailJoins, HeadJoins}
 use Rattle.agent_cells.specs.State.{state_of, tails_in, heads_in, IsCell}
@@ -18,7 +18,7 @@ use Rattle.tcp_links.specs.Plans.{IsBetween}
 use Rattle.tcp_links.specs.Kept.{IsKept}
 use Rattle.tcp_links.specs.Drains.{HasDrained}
 use Rattle.tcp_links.specs.Feeds.{AllWaits}
-use Rattle.node_letters.specs.Passings.{Passing, emptied as emptied_of}
+use Rattle.node_exchange.specs.Passings.{Passing, emptied as emptied_of}
 
 -- a link as an exchange passes it on: the same agents, and their nodes
 pub record IsPassingOf (node : ℕ → ℕ) (w : Wire) (p : Passing) : Type 0 where

@@ -3,7 +3,7 @@
 ghost use Rattle.std.specs.Prelude.{◌≡◌, ◌+◌, ◌≤◌, length, OnOk};
 ghost use Rattle.std.specs.List.{Contains};
 ghost use Rattle.fifo_links.specs.Link.{taken_from, known_to, SameHead};
-ghost use Rattle.worker_runs.specs.Cells.{peers, lane};
+ghost use Rattle.worker_laws.specs.Cells.{peers, lane};
 ghost use Rattle.agent_cells.specs.Settled.{TailJoins};
 ghost use Rattle.agent_cells.specs.State.{state_of, tails_in, IsCell};
 ghost use Rattle.agent_workers.specs.Settled.{StaysQuiet};

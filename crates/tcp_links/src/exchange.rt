@@ -1,14 +1,14 @@
 //! An exchange between nodes.
 
 ghost use Rattle.std.specs.Prelude.{◌≡◌, OnOk, IfErr};
-ghost use Rattle.node_runs.specs.Wires.{HaveHeld};
+ghost use Rattle.worker_laws.specs.Wires.{HaveHeld};
 ghost use Rattle.agent_cells.specs.State.{IsCell};
 ghost use Rattle.agent_workers.specs.Joined.{EachIs, EachBecomes, IsJoined};
 ghost use Rattle.agent_workers.specs.Settled.{StaysQuiet};
 ghost use Rattle.tcp_links.specs.Plans.{IsPlan, IsHonest};
 ghost use Rattle.tcp_links.specs.Faults.{HasNodeCause, IsNoDifference};
 ghost use Rattle.tcp_links.specs.Woven.{AreWoven};
-ghost use Rattle.worker_runs.specs.NodeRounds.{home};
+ghost use Rattle.worker_laws.specs.OneNode.{home};
 ghost use Rattle.tcp_links.specs.Over.{AreReady, HasExchanged, IsExchangeFault};
 
 use crate::fault::{NodeFault, node_fault};
@@ -16,14 +16,14 @@ use crate::plan::NodePlan;
 use crate::seen::{note_all, still_cells};
 use crate::weave::{drain_all, feed_all};
 use agent_cells::Cell;
-use letter_wires::pass_all;
+use node_exchange::pass_all;
 use std::alloc::{AllocGlobal, Global};
 use std::net::Net;
 use std::random::RandomSource;
 use std::sync::Wait;
 use std::thread::Threads;
 use std::time::Clock;
-use wire_edge::Dialer;
+use wire_pump::Dialer;
 
 /// Drains each link between nodes, sends over the wires what was drained, and feeds what arrived to
 /// the receivers. The exchange comes after `round` rounds. Links on which nothing was sent are left

@@ -4,8 +4,8 @@ ghost use Rattle.std.specs.Prelude.{◌≡◌};
 ghost use Rattle.tcp_links.specs.Faults.{node_fault};
 
 use dcop_base::{NoMemory, VarId};
-use kept_wires::LinkDifference;
-use letter_wires::PassFault;
+use link_records::LinkDifference;
+use node_exchange::PassFault;
 use protocol_steps::Envelope;
 use std::alloc::{AllocError, AllocFailed};
 

@@ -3,7 +3,7 @@
 ghost use Rattle.std.specs.Prelude.{◌≡◌, ◌≢◌, ℕ, ◌++◌, false, IfOk, OnOk};
 ghost use Rattle.std.specs.List.{Contains};
 ghost use Rattle.fifo_links.specs.Link.{sent_on, SameTail};
-ghost use Rattle.worker_runs.specs.Cells.{peers, lane, known_from};
+ghost use Rattle.worker_laws.specs.Cells.{peers, lane, known_from};
 ghost use Rattle.agent_cells.specs.Settled.{HeadJoins};
 ghost use Rattle.agent_cells.specs.State.{state_of, heads_in, IsCell};
 ghost use Rattle.agent_workers.specs.Settled.{StaysQuiet};

@@ -3,14 +3,14 @@
 ghost use Rattle.std.specs.Prelude.{◌≡◌, ◌<◌, ◌≤◌, IfOk};
 ghost use Rattle.std.specs.List.{All};
 ghost use Rattle.dcop_base.specs.Limits.{variable_limit, node_limit};
-ghost use Rattle.worker_runs.specs.NodeRounds.{home as home_of};
+ghost use Rattle.worker_laws.specs.OneNode.{home as home_of};
 ghost use Rattle.tcp_links.specs.Plans.{IsBetween};
 ghost use Rattle.tcp_links.specs.Woven.{IsIdle, AreIdle};
 
 use crate::plan::home;
 use dcop_base::NoMemory;
-use kept_wires::KeptLink;
-use node_letters::LinkPassing;
+use link_records::KeptLink;
+use node_exchange::LinkPassing;
 use std::alloc::Global;
 
 /// What an exchange passes on each of these links as long as nothing is drained of them.

@@ -2,9 +2,9 @@
 
 ghost use Rattle.std.specs.Prelude.{◌≡◌, ◌<◌, ◌≤◌, length, IfOk, OnOk, IfErr, IfSome, Some as some, None as none};
 ghost use Rattle.dcop_base.specs.Limits.{budget_limit};
-ghost use Rattle.worker_runs.specs.CellRounds.{total};
-ghost use Rattle.worker_runs.specs.NodeRounds.{home};
-ghost use Rattle.node_runs.specs.Wires.{HaveHeld};
+ghost use Rattle.worker_laws.specs.CellRounds.{total};
+ghost use Rattle.worker_laws.specs.OneNode.{home};
+ghost use Rattle.worker_laws.specs.Wires.{HaveHeld};
 ghost use Rattle.agent_cells.specs.State.{fault_in};
 ghost use Rattle.agent_workers.specs.Joined.{states_of, EachIs, HasBegun, IsJoined};
 ghost use Rattle.tcp_links.specs.Plans.{IsHonest};
@@ -26,7 +26,7 @@ use std::random::RandomSource;
 use std::sync::Wait;
 use std::thread::Threads;
 use std::time::Clock;
-use wire_edge::Dialer;
+use wire_pump::Dialer;
 
 /// How playing ended.
 #[derive(Clone, Copy, Debug, PartialEq, Eq)]

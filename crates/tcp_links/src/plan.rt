@@ -3,24 +3,24 @@
 ghost use Rattle.std.specs.Prelude.{◌≡◌, ◌≢◌, ◌↔◌, ℕ, ◌<◌, ◌≤◌, true, [], length, Some, slice_get, IfOk, OnOk, OnErr};
 ghost use Rattle.std.specs.List.{insert};
 ghost use Rattle.dcop_base.specs.Limits.{variable_limit, node_limit};
-ghost use Rattle.worker_runs.specs.NodeRounds.{home};
-ghost use Rattle.kept_wires.specs.Differences.{ComesBefore};
+ghost use Rattle.worker_laws.specs.OneNode.{home};
+ghost use Rattle.link_records.specs.Differences.{ComesBefore};
 ghost use Rattle.fifo_links.specs.Link.{AreEnds, sent_on, taken_from};
-ghost use Rattle.wire_edge.specs.Dialer.{HasDialCause};
+ghost use Rattle.wire_pump.specs.Dialer.{HasDialCause};
 ghost use Rattle.tcp_links.specs.Plans.{pair_count, AreOrdered, IsPlan, IsHonest, HasNoLink, IsNewPlan, IsNewLink, IsSamePlan, fresh_link, BelongsAt};
 
 use agent_cells::Sealed;
 use dcop_base::{NoMemory, VarId};
 use fifo_links::{LinkHead, LinkTail, link};
-use kept_wires::KeptLink;
-use node_letters::LinkPassing;
+use link_records::KeptLink;
+use node_exchange::LinkPassing;
 use std::alloc::{AllocGlobal, Global};
 use std::net::Net;
 use std::random::RandomSource;
 use std::sync::Wait;
 use std::thread::Threads;
 use std::time::Clock;
-use wire_edge::{DialFault, Dialer, Wire};
+use wire_pump::{DialFault, Dialer, Wire};
 
 /// The inner ends of a link between two nodes. What the sender's cell sends is drained from
 /// `drain`. What arrives is fed to `feed`, whose other end the receiver's cell has.

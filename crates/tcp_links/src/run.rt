@@ -2,13 +2,13 @@
 
 ghost use Rattle.std.specs.Prelude.{◌≡◌, ◌<◌, ◌≤◌, [], length, false, IfOk, OnOk, IfErr, MatchOption};
 ghost use Rattle.dcop_base.specs.Limits.{variable_limit, budget_limit, node_limit};
-ghost use Rattle.worker_runs.specs.CellRuns.{MakesARun};
-ghost use Rattle.node_runs.specs.Wires.{HaveHeld};
+ghost use Rattle.worker_laws.specs.CellRuns.{MakesARun};
+ghost use Rattle.worker_laws.specs.Wires.{HaveHeld};
 ghost use Rattle.agent_cells.specs.State.{begun_in, IsCell};
 ghost use Rattle.agent_workers.specs.Joined.{states_of, EachIs, IsJoined};
 ghost use Rattle.agent_workers.specs.Run.{views_of, AreDulyPlayed, RestsAtStill};
 ghost use Rattle.tcp_links.specs.Plans.{pair_count, IsPlan, IsHonest, IsNewPlan, IsSamePlan};
-ghost use Rattle.worker_runs.specs.NodeRounds.{home};
+ghost use Rattle.worker_laws.specs.OneNode.{home};
 ghost use Rattle.tcp_links.specs.Woven.{AreIdle};
 ghost use Rattle.tcp_links.specs.Linked.{AreLinkedOver};
 ghost use Rattle.tcp_links.specs.Ends.{HasHeldOver, DiffersOver};
@@ -24,7 +24,7 @@ use agent_cells::Cell;
 use agent_workers::{CellsList, begin_all, settle_all};
 use dcop_base::NoMemory;
 use dcop_edge::Gate;
-use kept_wires::{KeptLink, take_difference};
+use link_records::{KeptLink, take_difference};
 use protocol_steps::RunEnd;
 use std::alloc::{AllocGlobal, Global};
 use std::net::Net;
@@ -32,7 +32,7 @@ use std::random::RandomSource;
 use std::sync::Wait;
 use std::thread::Threads;
 use std::time::Clock;
-use wire_edge::{Dialer, Wire};
+use wire_pump::{Dialer, Wire};
 
 /// Starts the agents of all cells in order, and plays the cells in rounds with at most this many
 /// workers.

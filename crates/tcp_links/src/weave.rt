@@ -2,11 +2,11 @@
 
 ghost use Rattle.std.specs.Prelude.{◌≡◌, ◌<◌, ℕ, [], true, false, length, Some, slice_get, OnOk};
 ghost use Rattle.fifo_links.specs.Link.{sent_on, taken_from};
-ghost use Rattle.worker_runs.specs.Cells.{lane};
+ghost use Rattle.worker_laws.specs.Cells.{lane};
 ghost use Rattle.agent_cells.specs.State.{state_of};
 ghost use Rattle.agent_workers.specs.Joined.{EachBecomes};
 ghost use Rattle.agent_workers.specs.Settled.{StaysQuiet};
-ghost use Rattle.node_letters.specs.Passings.{holding, emptied};
+ghost use Rattle.node_exchange.specs.Passings.{holding, emptied};
 ghost use Rattle.tcp_links.specs.Woven.{AreIdle, AreLinksOf, CanDrain, CanDrainAll, CanFeed, CanFeedAll, HasDrainedLink, HaveDrained, HasFedLink, HaveFed, AreEmptied, KnowsElse, SentIsDrained, FedIsTaken};
 
 use crate::drain::drain_link;
@@ -15,8 +15,8 @@ use crate::plan::InnerEnds;
 use crate::seen::{is_still, slot};
 use agent_cells::Cell;
 use dcop_base::{NoMemory, VarId};
-use kept_wires::KeptLink;
-use node_letters::LinkPassing;
+use link_records::KeptLink;
+use node_exchange::LinkPassing;
 use std::alloc::Global;
 
 /// Drains each link between nodes completely, and gives what was drained to the passings, which are

@@ -1,7 +1,7 @@
 -- What a wire over a socket tells: its counts and not its bytes; and what such wires and dialers do
 -- not promise.
 use Rattle.std.specs.Prelude.{⊤, None, IsSome}
-use Rattle.wire_edge.specs.Wire.{Told}
+use Rattle.wire_pump.specs.Wire.{Told}
 use Rattle.tcp_wire.specs.declared.wire.TcpWire.{TcpWire}
 use Rattle.tcp_wire.specs.declared.dialer.TcpDialer.{TcpDialer}
 

@@ -2,8 +2,8 @@
 
 ghost use Rattle.std.specs.Prelude.{◌≡◌, ◌≤◌, ◌<◌, ◌↔◌, None, Ok, IfSome, IfOk, OnOk, IfErr};
 ghost use Rattle.dcop_edge.specs.Faults.{Rose};
-ghost use Rattle.wire_edge.specs.Dialer.{HasDialCause, IsNew, TellsNothing};
-ghost use Rattle.wire_edge.specs.declared.dialer.DialFault.TheVariants.{Failed as failed};
+ghost use Rattle.wire_pump.specs.Dialer.{HasDialCause, IsNew, TellsNothing};
+ghost use Rattle.wire_pump.specs.declared.dialer.DialFault.TheVariants.{Failed as failed};
 
 use crate::connection::connect;
 use crate::wire::TcpWire;
@@ -16,7 +16,7 @@ use std::sync::Wait;
 use std::thread::Threads;
 use std::time::Clock;
 use tokio::runtime::LocalRuntime;
-use wire_edge::{DialFault, Dialer};
+use wire_pump::{DialFault, Dialer};
 
 /// Opens each pair of wires as one connection on 127.0.0.1. It dials, and then accepts connections
 /// until one comes from the address that dialled; any other is closed. It refuses at once if the

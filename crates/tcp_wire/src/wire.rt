@@ -7,7 +7,7 @@ use dcop_edge::Failed;
 use futures::task::{Context, Poll};
 use tokio::io::{AsyncRead, AsyncWrite};
 use tokio::net::TcpStream;
-use wire_edge::Wire;
+use wire_pump::Wire;
 
 /// One end of a connection. An error of the socket is a fault, and so is the end of the stream. It
 /// tells how many bytes it has sent and received, and not which. It is joined to no wire.

@@ -3,9 +3,9 @@
 use crate::gate::MeetingGate;
 use crate::pair::{ONCE, replies_in};
 use dcop_edge::{Gate, MemorySink, MemorySource, OpenGate};
-use serve_edge::{Listener, MemoryListener};
+use serve_clients::{Listener, MemoryListener};
+use serve_replies::SolveMaker;
 use serve_top::serve_all;
-use solve_maker::SolveMaker;
 use std::alloc::Global;
 use std::sync::Wait;
 use std::thread::Threads;

@@ -5,7 +5,7 @@ ghost use Rattle.std.specs.Prelude.{◌≡◌};
 use crate::pair::replies_in;
 use dcop_edge::{MemorySink, MemorySource, OpenGate};
 use reply_cache::{FreshMaker, LookShare, ReplyCache};
-use solve_maker::SolveMaker;
+use serve_replies::SolveMaker;
 use solve_serve::{SessionEnd, serve_one};
 use std::marker::Brand;
 use std::sync::ledger::{Blank, Ledger};

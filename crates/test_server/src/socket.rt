@@ -5,7 +5,7 @@ ghost use Rattle.std.specs.Prelude.{◌≡◌, ◌≤◌, IfSome};
 use crate::pair::{ONCE, TWICE, replies_in};
 use crate::serving::{Answered, answered_by};
 use dcop_edge::{Failed, OpenGate};
-use serve_edge::{ListenFault, Listener, MAX_SILENCE, StdListener};
+use serve_clients::{ListenFault, Listener, MAX_SILENCE, StdListener};
 use serve_top::ServeStatus;
 use std::io::{Read, Write};
 use std::net::{Net, Shutdown, TcpListener, TcpStream};

@@ -9,7 +9,7 @@ use std::sync::Wait;
 use std::thread::Threads;
 use std::time::Clock;
 use tcp_wire::TcpDialer;
-use wire_edge::{Alter, MemoryDialer, PollFail};
+use wire_pump::{Alter, MemoryDialer, PollFail};
 
 /// No row has as many polls or bytes.
 const MOST: u64 = 1_000;

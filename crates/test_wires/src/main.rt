@@ -17,7 +17,7 @@ use std::sync::Wait;
 use std::thread::Threads;
 use std::time::Clock;
 use tcp_wire::TcpDialer;
-use wire_edge::SteadyDialer;
+use wire_pump::SteadyDialer;
 
 fn main(rt: HostRuntime) -> io::Result<()> {
     print_pumps(&rt)?;

@@ -10,8 +10,7 @@ use std::random::RandomSource;
 use std::sync::Wait;
 use std::thread::Threads;
 use std::time::Clock;
-use wire_edge::{Dialer, MemoryDialer, PollFail, SteadyDialer, Wire};
-use wire_pump::{Pump, Pumped, pump_by};
+use wire_pump::{Dialer, MemoryDialer, PollFail, Pump, Pumped, SteadyDialer, Wire, pump_by};
 
 /// The most polls that a pump may take to its end.
 const MOST_POLLS: u64 = 20_000;

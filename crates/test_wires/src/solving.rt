@@ -8,7 +8,7 @@ use std::random::RandomSource;
 use std::sync::Wait;
 use std::thread::Threads;
 use std::time::Clock;
-use wire_edge::Dialer;
+use wire_pump::Dialer;
 
 /// The words.
 const WORDS: &str = "solve --method dpop --nodes 2";

@@ -5,11 +5,10 @@ ghost use Rattle.agent_cells.specs.State.{begun_in, IsCell};
 ghost use Rattle.agent_workers.specs.Joined.{EachIs, EachBecomes, IsSameCell};
 ghost use Rattle.agent_workers.specs.Run.{HasStarted};
 ghost use Rattle.agent_links.specs.Ready.{IsNewCell};
-ghost use Rattle.agent_seats.specs.Kinds.{view_of};
+ghost use Rattle.agent_links.specs.Kinds.{view_of};
 
 use agent_cells::{Cell, VisitFault};
-use agent_links::make_each;
-use agent_seats::{Agent, Seat, seats_of};
+use agent_links::{Agent, Seat, make_each, seats_of};
 use agent_workers::{CellsList, begin_all, round};
 use dcop_base::{NoMemory, Problem, problem_is_whole};
 use dcop_edge::OpenGate;

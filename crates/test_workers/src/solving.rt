@@ -8,7 +8,7 @@ use std::random::RandomSource;
 use std::sync::Wait;
 use std::thread::Threads;
 use std::time::Clock;
-use wire_edge::SteadyDialer;
+use wire_pump::SteadyDialer;
 
 /// The problem.
 pub(crate) const PAIR: &str = "dcop 1\nvar x 2\nvar y 2\ntable x y : 5 3 2 7\nend\n";

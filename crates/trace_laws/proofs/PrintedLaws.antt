@@ -7,10 +7,10 @@ use Rattle.problem_text.specs.File.{TextFile, IsFile}
 use Rattle.problem_text.specs.Steps.{declared_by}
 use Rattle.run_log.specs.declared.log.LogEvent.{LogEvent}
 use Rattle.run_log.specs.Logs.{events_of}
-use Rattle.log_holds.specs.Differences.{fault_in, played}
-use Rattle.log_holds.specs.Holds.{agents_for, HoldsLog}
-use Rattle.log_holds.proofs.PlayedLaws.{run-lawful, lawful-leads}
-use Rattle.solve_replay.specs.Replaying.{log_up_to}
+use Rattle.minimised_problem.specs.Differences.{fault_in, played}
+use Rattle.minimised_problem.specs.LogHolds.{agents_for, HoldsLog}
+use Rattle.minimised_problem.proofs.PlayedLaws.{run-lawful, lawful-leads}
+use Rattle.solve_printed.specs.Replaying.{log_up_to}
 use Rattle.solve_top.specs.Solving.{IsLoggedFor}
 use Rattle.solve_top.proofs.CertificateLaws.{Certifies}
 use Rattle.solve_top.proofs.PrintedLaws.{certified, front_is, again, lawful-up-to}

@@ -8,12 +8,12 @@ use Rattle.solve_words.specs.declared.fault.WordFault.{WordFault}
 use Rattle.solve_words.specs.declared.fault.WordFault.TheVariants as words
 use Rattle.solve_report.specs.declared.answer.Answer.{Answer}
 use Rattle.solve_report.specs.declared.answer.Answer.TheVariants as answers
-use Rattle.solve_inputs.specs.Fronts.{front_read, lines_in}
-use Rattle.solve_inputs.proofs.RefusalLaws.{front_told}
-use Rattle.answer_edge.specs.declared.status.Status.TheVariants.{ReadFault}
-use Rattle.answer_edge.proofs.InputLaws.{taken-least, count-stays}
-use Rattle.answer_edge.specs.Showing.{StaysUnless}
-use Rattle.answer_edge.specs.Input.{Input, Unread, Broken, TooLong, Whole, SourceState, IsAllOf, IsReadFrom}
+use Rattle.answer_io.specs.Fronts.{front_read, lines_in}
+use Rattle.answer_io.proofs.RefusalLaws.{front_told}
+use Rattle.answer_io.specs.declared.status.Status.TheVariants.{ReadFault}
+use Rattle.answer_io.proofs.InputLaws.{taken-least, count-stays}
+use Rattle.answer_io.specs.Showing.{StaysUnless}
+use Rattle.answer_io.specs.Input.{Input, Unread, Broken, TooLong, Whole, SourceState, IsAllOf, IsReadFrom}
 use Rattle.trace_top.specs.declared.answer.TraceAnswer.{TraceAnswer}
 use Rattle.trace_top.specs.declared.answer.TraceAnswer.TheVariants.{Refused}
 use Rattle.trace_top.specs.declared.words.Asked.{Asked}

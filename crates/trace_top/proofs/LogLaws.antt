@@ -20,17 +20,17 @@ use Rattle.delivery_core.specs.Faults.{FirstFault, Replays}
 use Rattle.delivery_core.specs.declared.replaying.ReplayFault.{ReplayFault}
 use Rattle.delivery_core.specs.declared.replaying.ReplayFault.TheVariants.{BadEvent, NoMemory}
 use Rattle.log_check.proofs.DifferLaws.{fault_told}
-use Rattle.log_holds.specs.Differences.{fault_in}
-use Rattle.log_holds.specs.Holds.{agents_for}
-use Rattle.log_holds.proofs.PlayedLaws.{run-lawful}
+use Rattle.minimised_problem.specs.Differences.{fault_in}
+use Rattle.minimised_problem.specs.LogHolds.{agents_for}
+use Rattle.minimised_problem.proofs.PlayedLaws.{run-lawful}
 use Rattle.report_reader.specs.ReportLines.{Fault}
 use Rattle.report_reader.specs.ReportReading.{report_read}
 use Rattle.solve_report.specs.declared.answer.Answer.{Answer}
 use Rattle.solve_report.specs.declared.answer.Answer.TheVariants as answers
-use Rattle.solve_replay.specs.declared.reading.LogRead.TheVariants.{Log, Refused as Unread}
-use Rattle.solve_replay.specs.LogReads.{IsLogOf, IsLogRead}
-use Rattle.solve_replay.specs.Replaying.{log_up_to, IsFaultAnswer}
-use Rattle.solve_replay.proofs.LogLaws.{log-in}
+use Rattle.solve_printed.specs.declared.reading.LogRead.TheVariants.{Log, Refused as Unread}
+use Rattle.solve_printed.specs.LogReads.{IsLogOf, IsLogRead}
+use Rattle.solve_printed.specs.Replaying.{log_up_to, IsFaultAnswer}
+use Rattle.solve_printed.proofs.LogLaws.{log-in}
 use Rattle.trace_top.specs.declared.answer.TraceAnswer.{TraceAnswer}
 use Rattle.trace_top.specs.declared.answer.TraceAnswer.TheVariants.{Traced, Refused}
 use Rattle.trace_top.specs.declared.words.Asked.{Asked}

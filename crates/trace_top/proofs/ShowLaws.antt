@@ -1,10 +1,10 @@
 -- What follows from how an answer was shown.
 use Rattle.std.proofs.Common.{◌≡◌, ◌≢◌, ℕ, ◌⊎◌, sym, subst, ◌∙◌, inl, inr}
 use Rattle.dcop_edge.specs.Faults.{Rose}
-use Rattle.answer_edge.specs.declared.status.Status.{Status}
-use Rattle.answer_edge.specs.declared.status.Status.TheVariants.{ReadFault, WriteFault, NoMemory}
-use Rattle.answer_edge.specs.Output.{SinkState}
-use Rattle.answer_edge.specs.Showing.{StaysUnless}
+use Rattle.answer_io.specs.declared.status.Status.{Status}
+use Rattle.answer_io.specs.declared.status.Status.TheVariants.{ReadFault, WriteFault, NoMemory}
+use Rattle.answer_io.specs.Output.{SinkState}
+use Rattle.answer_io.specs.Showing.{StaysUnless}
 use Rattle.trace_top.specs.Showing.{IsShown, IsCut, Shows, trace_status_of}
 use Rattle.trace_top.specs.declared.answer.TraceAnswer.{TraceAnswer}
 use Rattle.trace_top.proofs.StatusLaws.{told-status}

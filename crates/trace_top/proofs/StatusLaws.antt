@@ -1,7 +1,7 @@
 -- What the status of an answer says about the answer.
 use Rattle.std.proofs.Common.{◌≡◌, ◌≢◌, ap}
-use Rattle.answer_edge.specs.declared.status.Status.TheVariants.{ReadFault, WriteFault}
-use Rattle.answer_edge.proofs.StatusLaws.{told-status as refusal-status, read-alone}
+use Rattle.answer_io.specs.declared.status.Status.TheVariants.{ReadFault, WriteFault}
+use Rattle.answer_io.proofs.StatusLaws.{told-status as refusal-status, read-alone}
 use Rattle.solve_report.specs.declared.answer.Answer.TheVariants as answers
 use Rattle.trace_top.specs.Showing.{trace_status_of}
 use Rattle.trace_top.specs.declared.answer.TraceAnswer.{TraceAnswer}

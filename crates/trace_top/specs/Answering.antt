@@ -19,17 +19,17 @@ use Rattle.certificate_text.specs.declared.verdict.Differs.TheVariants.{Event as
 use Rattle.certificate_text.specs.declared.verdict.Verdict.TheVariants.{No}
 use Rattle.report_reader.specs.ReportLines.{Fault}
 use Rattle.report_reader.specs.ReportReading.{report_read}
-use Rattle.log_holds.specs.Holds.{agents_for}
+use Rattle.minimised_problem.specs.LogHolds.{agents_for}
 use Rattle.solve_report.specs.declared.answer.Answer.{Answer}
 use Rattle.solve_report.specs.declared.answer.Answer.TheVariants as answers
 use Rattle.solve_report.specs.AnswerText.{HasText}
-use Rattle.solve_replay.specs.CertificateLine.{certificate_line}
-use Rattle.solve_replay.specs.Replaying.{log_up_to, TellsFault}
+use Rattle.solve_printed.specs.CertificateLine.{certificate_line}
+use Rattle.solve_printed.specs.Replaying.{log_up_to, TellsFault}
 use Rattle.solve_words.specs.Kinds.{number_of_words}
 use Rattle.solve_words.specs.declared.fault.WordFault.{WordFault}
 use Rattle.solve_words.specs.declared.fault.WordFault.TheVariants as words
-use Rattle.answer_edge.specs.Input.{Input, Unread, Broken, TooLong, Whole}
-use Rattle.solve_inputs.specs.Fronts.{front_read, lines_in}
+use Rattle.answer_io.specs.Input.{Input, Unread, Broken, TooLong, Whole}
+use Rattle.answer_io.specs.Fronts.{front_read, lines_in}
 use Rattle.trace_text.specs.Trace.{trace_text}
 use Rattle.trace_top.specs.Words.{trace_answer_to}
 use Rattle.trace_top.specs.declared.answer.TraceAnswer.{TraceAnswer}

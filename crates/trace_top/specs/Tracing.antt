@@ -13,13 +13,13 @@ use Rattle.run_log.specs.Logs.{events_of}
 use Rattle.certificate_text.specs.declared.certificate.Certificate.TheVariants.{Log}
 use Rattle.certificate_text.specs.declared.report.Report.{Report}
 use Rattle.report_reader.specs.ReportReading.{report_read}
-use Rattle.log_holds.specs.Holds.{agents_for}
-use Rattle.answer_edge.specs.declared.status.Status.{Status}
-use Rattle.answer_edge.specs.declared.status.Status.TheVariants as statuses
-use Rattle.answer_edge.specs.Input.{Input, SourceState, IsReadFrom}
-use Rattle.answer_edge.specs.Output.{SinkState}
-use Rattle.solve_inputs.specs.Fronts.{front_read}
-use Rattle.solve_replay.specs.Replaying.{log_up_to}
+use Rattle.minimised_problem.specs.LogHolds.{agents_for}
+use Rattle.answer_io.specs.declared.status.Status.{Status}
+use Rattle.answer_io.specs.declared.status.Status.TheVariants as statuses
+use Rattle.answer_io.specs.Input.{Input, SourceState, IsReadFrom}
+use Rattle.answer_io.specs.Output.{SinkState}
+use Rattle.answer_io.specs.Fronts.{front_read}
+use Rattle.solve_printed.specs.Replaying.{log_up_to}
 use Rattle.trace_top.specs.Answering.{IsTraceAnswer}
 use Rattle.trace_top.specs.Showing.{IsShown, IsCut}
 use Rattle.trace_top.specs.Words.{trace_answer_to}

@@ -9,25 +9,26 @@ ghost use Rattle.protocol_steps.specs.Network.{start_state};
 ghost use Rattle.protocol_steps.specs.TreeAgents.{adopt_agents};
 ghost use Rattle.problem_text.specs.Steps.{declared_by};
 ghost use Rattle.run_log.specs.LogText.{FitsEvent};
-ghost use Rattle.log_holds.specs.Holds.{agents_for};
-ghost use Rattle.answer_edge.specs.Input.{source_state};
-ghost use Rattle.solve_inputs.specs.Fronts.{front_read};
+ghost use Rattle.minimised_problem.specs.LogHolds.{agents_for};
+ghost use Rattle.answer_io.specs.Input.{source_state};
+ghost use Rattle.answer_io.specs.Fronts.{front_read};
 ghost use Rattle.trace_text.specs.Trace.{Traces};
 ghost use Rattle.trace_top.specs.Answering.{AnswersTrace, IsTellable, IsTextAnswer, IsTrace};
 ghost use Rattle.trace_top.specs.Tracing.{IsAnswered};
 
 use crate::answer::TraceAnswer;
 use crate::words::{Asked, read_trace_words};
-use answer_edge::{ReadEnd, fault_answer, read_all, words_answer};
+use answer_io::{
+    InputFault, ReadEnd, fault_answer, lines_in, read_all, read_front, wcsp_answer, words_answer,
+};
 use dcop_base::{Bytes, NoMemory, Problem, problem_is_whole};
 use dcop_edge::Source;
 use delivery_core::ReplayFault;
 use log_check::start_for;
-use problem_solved::ProblemSolved;
+use minimised_problem::ProblemSolved;
 use problem_text::{Names, ProblemFile, TextKind};
 use run_log::LogEvent;
-use solve_inputs::{InputFault, lines_in, read_front, wcsp_answer};
-use solve_replay::{LogRead, log_up_to, read_log};
+use solve_printed::{LogRead, log_up_to, read_log};
 use solve_report::Answer;
 use solve_words::WordFault;
 use std::alloc::Global;
@@ -135,7 +136,7 @@ fn traced(
     match trace_of(alloc, &file, from, error, log) {
         Ok(text) => Ok(TraceAnswer::Traced(text)),
         Err(fault) => {
-            let refusal = solve_replay::fault_answer(file.names, fault)?;
+            let refusal = solve_printed::fault_answer(file.names, fault)?;
             Ok(TraceAnswer::Refused(refusal))
         }
     }

@@ -16,7 +16,7 @@ mod top;
 mod words;
 
 pub use answer::TraceAnswer;
-pub use answer_edge::Status;
+pub use answer_io::Status;
 pub use law::trace_answers_are_one;
 pub use top::trace;
 pub use words::Asked;

@@ -1,13 +1,13 @@
 //! Showing an answer of `dcop_trace`.
 
 ghost use Rattle.std.specs.Prelude.{◌≡◌};
-ghost use Rattle.answer_edge.specs.Output.{sink_state};
+ghost use Rattle.answer_io.specs.Output.{sink_state};
 ghost use Rattle.trace_top.specs.Answering.{IsTellable};
 ghost use Rattle.trace_top.specs.Showing.{Shows};
 ghost use Rattle.trace_top.specs.declared.answer.TraceAnswer.TheVariants.{Traced};
 
 use crate::answer::TraceAnswer;
-use answer_edge::{Status, show, write_all};
+use answer_io::{Status, show, write_all};
 use dcop_edge::Sink;
 use std::alloc::Global;
 

@@ -2,14 +2,14 @@
 
 ghost use Rattle.std.specs.Prelude.{◌≡◌, ◌≢◌, ◌⊎◌, ℕ, List, Some, map, string_bytes};
 ghost use Rattle.dcop_edge.specs.Faults.{Rose};
-ghost use Rattle.answer_edge.specs.Input.{source_state};
-ghost use Rattle.answer_edge.specs.Output.{sink_state};
-ghost use Rattle.answer_edge.specs.Showing.{StaysUnless};
+ghost use Rattle.answer_io.specs.Input.{source_state};
+ghost use Rattle.answer_io.specs.Output.{sink_state};
+ghost use Rattle.answer_io.specs.Showing.{StaysUnless};
 ghost use Rattle.trace_top.specs.Tracing.{Tells, IsAccepted, GoesWell};
 
 use crate::answering::answer_of;
 use crate::showing::show_answer;
-use answer_edge::Status;
+use answer_io::Status;
 use dcop_edge::{Sink, Source};
 use std::alloc::Global;
 

@@ -1,7 +1,7 @@
 -- Sending and receiving, poll by poll.
 use Rattle.std.proofs.Common.{◌≡◌, ◌+◌, ◌≤◌, ℕ, List, ◌++◌, length, take, drop, Option, Some, None, refl, ap, sym, subst, ◌∙◌, append_assoc, take-add, arith, length-drop}
 use Rattle.dcop_edge.specs.Faults.{Rose}
-use Rattle.wire_edge.specs.Wire.{Told, told_more, counted_more, Wrote, Gave, Broke, WaitsToWrite, WaitsToRead}
+use Rattle.wire_pump.specs.Wire.{Told, told_more, counted_more, Wrote, Gave, Broke, WaitsToWrite, WaitsToRead}
 use Rattle.wire_pump.specs.Lane.{Sends, Receives, Fails}
 
 -- a count that rose later has risen since

@@ -1,2 +1,3 @@
+mod AlterLaws
 pub mod LaneLaws
 pub mod PumpLaws

@@ -2,7 +2,7 @@
 use Rattle.std.proofs.Common.{◌≡◌, ◌≤◌, ◌⊎◌, ℕ, List, [], ◌∷◌, ◌++◌, length, take, Option, Some, None, Result, Ok, Err, IfOk, is_err, true, false, refl, ap, sym, subst, ◌∙◌, inl, inr, append_assoc, append-nil, arith, length-append}
 use Rattle.std.proofs.lemmas.List.{take_all, append_cancel_left}
 use Rattle.dcop_edge.specs.Faults.{Rose}
-use Rattle.wire_edge.specs.Wire.{Told, told_more, counted_more, Reach, Reaches}
+use Rattle.wire_pump.specs.Wire.{Told, told_more, counted_more, Reach, Reaches}
 use Rattle.wire_pump.specs.Ends.{Before, start_of, HasMoved, IsDone, CountsLater, IsLater, HasEnded, IsOpen, IsOpenOnly}
 use Rattle.wire_pump.specs.Pump.{HasPassed, HasAll, EndsFrom, GivesFrom, EndsPump}
 use Rattle.wire_pump.specs.Turn.{GoesOn}

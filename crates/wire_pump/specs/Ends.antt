@@ -1,7 +1,7 @@
 -- Both ends of a pump: what moved since a start, and what a pass over both ends did.
 use Rattle.std.specs.Prelude.{◌≡◌, ◌<◌, ◌≤◌, ◌⊎◌, ℕ, List, take, Option, vec_len}
 use Rattle.dcop_edge.specs.Faults.{Rose}
-use Rattle.wire_edge.specs.Wire.{Told, told_more, counted_more}
+use Rattle.wire_pump.specs.Wire.{Told, told_more, counted_more}
 use Rattle.wire_pump.specs.declared.ends.Lane.{Lane}
 use Rattle.wire_pump.specs.declared.ends.Ends.{Ends}
 

@@ -2,7 +2,7 @@
 use Rattle.std.specs.Prelude.{◌≡◌, ◌<◌, ◌≤◌, ℕ, List, length, take, Option, Result, Ok, Err}
 use Rattle.dcop_edge.specs.Faults.{Rose}
 use Rattle.dcop_edge.specs.declared.fault.Failed.{Failed}
-use Rattle.wire_edge.specs.Wire.{Told, told_more, counted_more}
+use Rattle.wire_pump.specs.Wire.{Told, told_more, counted_more}
 
 -- bytes up to position `now` are sent, as far as the wire tells: if it had sent those up to `went`
 -- since some start, it has now sent those up to `now`, and its count of them is right; no fault,

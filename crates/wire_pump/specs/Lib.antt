@@ -1,3 +1,8 @@
+pub mod Wire
+pub mod Dialer
+pub mod Ring
+pub mod Steady
+pub mod Memory
 pub mod Lane
 pub mod Ends
 pub mod Pump

@@ -1,7 +1,7 @@
 -- What a pump gives: both lists were sent and as many bytes received, or one of its wires failed.
 use Rattle.std.specs.Prelude.{◌≡◌, ◌≤◌, ◌⊎◌, ℕ, List, length, Option, Some, None, Result, Ok, Err}
 use Rattle.dcop_edge.specs.Faults.{Rose}
-use Rattle.wire_edge.specs.Wire.{Told, told_more, counted_more, Reach}
+use Rattle.wire_pump.specs.Wire.{Told, told_more, counted_more, Reach}
 use Rattle.wire_pump.specs.Ends.{Before, start_of, HasMoved, CountsLater, Waits}
 use Rattle.wire_pump.specs.declared.ends.Ends.{Ends}
 use Rattle.wire_pump.specs.declared.pump.Pumped.{Pumped}

@@ -1,5 +1,5 @@
 -- The outcome of one poll of a pump.
-use Rattle.wire_edge.specs.Wire.{Told}
+use Rattle.wire_pump.specs.Wire.{Told}
 use Rattle.wire_pump.specs.Ends.{IsLater, Waits}
 use Rattle.wire_pump.specs.Pump.{GivesFrom}
 use Rattle.wire_pump.specs.declared.ends.Ends.{Ends}

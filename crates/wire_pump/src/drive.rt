@@ -1,9 +1,10 @@
 //! Running a pump to its end, by a dialer.
 
 ghost use Rattle.std.specs.Prelude.{◌↔◌, IfOk};
-ghost use Rattle.wire_edge.specs.Dialer.{HasDialCause};
+ghost use Rattle.wire_pump.specs.Dialer.{HasDialCause};
 ghost use Rattle.wire_pump.specs.Pump.{EndsPump};
 
+use crate::dialer::{DialFault, Dialer};
 use crate::pump::{Pump, PumpFail, Pumped};
 use dcop_base::Bytes;
 use std::alloc::{AllocGlobal, Global};
@@ -12,7 +13,6 @@ use std::random::RandomSource;
 use std::sync::Wait;
 use std::thread::Threads;
 use std::time::Clock;
-use wire_edge::{DialFault, Dialer};
 
 /// Sends both lists over two wires of this dialer, which drives the [`Pump`] until it is done. A
 /// wire that failed is not charged to the dialer. It may wait.

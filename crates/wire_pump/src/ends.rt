@@ -3,14 +3,14 @@
 ghost use Rattle.std.specs.Prelude.{◌≡◌, ◌<◌, ◌≤◌, vec_len, IfOk, IfErr};
 ghost use Rattle.std.specs.Bool.{OnTrue, OnFalse};
 ghost use Rattle.futures.specs.Task.{IsArmed, Keeps};
-ghost use Rattle.wire_edge.specs.Wire.{Reach};
+ghost use Rattle.wire_pump.specs.Wire.{Reach};
 
 use crate::lane::{receive, send};
+use crate::wire::Wire;
 use dcop_base::{Bytes, NoMemory};
 use dcop_edge::Failed;
 use futures::task::Context;
 use std::alloc::Global;
-use wire_edge::Wire;
 
 /// One direction: the bytes to send, how many of them were sent, a buffer of the same length, and
 /// how many bytes were received into it at the other end.

@@ -3,12 +3,12 @@
 ghost use Rattle.std.specs.Prelude.{◌≡◌, ◌<◌, ◌≤◌, length, take, drop, IfOk};
 ghost use Rattle.futures.specs.Poll.{OnPending};
 ghost use Rattle.futures.specs.Task.{IsArmed, Keeps};
-ghost use Rattle.wire_edge.specs.Wire.{AfterWrite, AfterRead};
+ghost use Rattle.wire_pump.specs.Wire.{AfterWrite, AfterRead};
 ghost use Rattle.wire_pump.specs.Lane.{AfterSend, AfterReceive};
 
+use crate::wire::Wire;
 use dcop_edge::Failed;
 use futures::task::{Context, Poll};
-use wire_edge::Wire;
 
 /// Sends the bytes from position `went` on, until all are sent or the wire takes no more now.
 /// `went` is then how many were sent.

@@ -5,11 +5,11 @@ ghost use Rattle.futures.specs.Poll.{IfReady, OnPending};
 ghost use Rattle.futures.specs.Task.{IsArmed, Covers, Keeps};
 
 use crate::ends::{Ends, Lane};
+use crate::wire::Wire;
 use dcop_base::{Bytes, NoMemory};
 use futures::Future;
 use futures::task::{Context, Poll};
 use std::alloc::Global;
-use wire_edge::Wire;
 
 /// What a pump gives when it is done: both wires, and the bytes that were received at each. They
 /// are as many as were given to the other.

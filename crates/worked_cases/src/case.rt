@@ -1,7 +1,7 @@
 //! What a case file says.
 
 use std::alloc::Global;
-use wire_edge::{Alter, PollFail};
+use wire_pump::{Alter, PollFail};
 
 /// The program that a case is for.
 #[derive(Clone, Copy)]

@@ -15,7 +15,7 @@ use std::sync::Wait;
 use std::thread::Threads;
 use std::time::Clock;
 use trace_top::trace;
-use wire_edge::{MemoryDialer, SteadyDialer};
+use wire_pump::{MemoryDialer, SteadyDialer};
 
 /// How many runs of cases were made, and how many of these differ.
 #[derive(Clone, Copy, Default)]

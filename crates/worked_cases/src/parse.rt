@@ -4,7 +4,7 @@ use crate::case::{Answer, Case, Change, Output, Piece, Program};
 use crate::escape::add_escaped;
 use anyhow::{Context, Result, bail, ensure};
 use std::alloc::Global;
-use wire_edge::{Alter, PollFail};
+use wire_pump::{Alter, PollFail};
 
 /// What lines of text belong to.
 #[derive(Clone, Copy, PartialEq, Eq)]

@@ -2,7 +2,7 @@
 
 ghost use Rattle.std.specs.Prelude.{◌≡◌, true, false, [], OnOk, OnErr, None, Some};
 ghost use Rattle.protocol_steps.specs.View.{made_of};
-ghost use Rattle.worker_runs.specs.Visits.{IsStarted};
+ghost use Rattle.worker_laws.specs.Visits.{IsStarted};
 ghost use Rattle.agent_cells.specs.declared.fault.VisitFault.TheVariants.{NoMemory as no_memory};
 ghost use Rattle.agent_cells.specs.Links.{AreSameTails};
 ghost use Rattle.agent_cells.specs.State.{state_of, begun_in, fault_in, IsSound, IsCell, KeepsLinks};

@@ -5,7 +5,7 @@ ghost use Rattle.std.specs.List.Sorted.{IsStrictlyIncreasing};
 ghost use Rattle.dcop_base.specs.Limits.{amount_limit};
 ghost use Rattle.protocol_steps.specs.View.{made_of};
 ghost use Rattle.protocol_steps.specs.Machine.{MayReact, IsBatch};
-ghost use Rattle.worker_runs.specs.Cells.{peers};
+ghost use Rattle.worker_laws.specs.Cells.{peers};
 ghost use Rattle.agent_cells.specs.declared.fault.VisitFault.TheVariants.{StampEnd};
 ghost use Rattle.agent_cells.specs.Links.{lanes_sent, AreSameTails};
 ghost use Rattle.agent_cells.specs.Handled.{IsHandled, IsAtEnd};

@@ -4,7 +4,7 @@ ghost use Rattle.std.specs.Prelude.{◌≡◌, false, [], IfOk, None};
 ghost use Rattle.std.specs.List.{All};
 ghost use Rattle.std.specs.List.Sorted.{IsStrictlyIncreasing};
 ghost use Rattle.protocol_steps.specs.View.{private_of, started_of};
-ghost use Rattle.worker_runs.specs.Cells.{peers};
+ghost use Rattle.worker_laws.specs.Cells.{peers};
 ghost use Rattle.agent_cells.specs.Links.{lanes_sent, lanes_taken};
 ghost use Rattle.agent_cells.specs.State.{state_of, begun_in, fault_in, tails_in, heads_in, IsCell};
 

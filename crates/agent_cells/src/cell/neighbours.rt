@@ -1,7 +1,7 @@
 //! The neighbours of a cell, and what it knows of the links from them.
 
 ghost use Rattle.std.specs.Prelude.{◌≡◌, ◌<◌, ℕ, true, length, slice_index_or, None};
-ghost use Rattle.worker_runs.specs.Cells.{peers, known_from};
+ghost use Rattle.worker_laws.specs.Cells.{peers, known_from};
 ghost use Rattle.agent_cells.specs.State.{state_of, fault_in};
 
 use super::Cell;

@@ -2,8 +2,8 @@
 
 ghost use Rattle.std.specs.Prelude.{◌≡◌};
 ghost use Rattle.fifo_links.specs.Link.{sent_on, taken_from, SameTail, SameHead};
-ghost use Rattle.worker_runs.specs.Visits.{IsQuiet};
-ghost use Rattle.worker_runs.specs.CellRounds.{IsSettled};
+ghost use Rattle.worker_laws.specs.Visits.{IsQuiet};
+ghost use Rattle.worker_laws.specs.CellRounds.{IsSettled};
 ghost use Rattle.agent_cells.specs.Settled.{TailJoins, HeadJoins, EndsJoin, SettlesTail, SettlesHead, TailIsSettled, HeadIsSettled, EndsAreSettled, HaveBothEnds};
 ghost use Rattle.agent_cells.specs.State.{state_of, begun_in, fault_in, tails_in, heads_in, IsCell};
 

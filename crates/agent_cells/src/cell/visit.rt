@@ -3,7 +3,7 @@
 ghost use Rattle.std.specs.Prelude.{◌≡◌, ◌≤◌, ◌⊎◌, true, false, IfOk, OnOk, IfErr, IfSome, Err, None, Some};
 ghost use Rattle.dcop_base.specs.Limits.{amount_limit};
 ghost use Rattle.protocol_steps.specs.View.{made_of, ended_of};
-ghost use Rattle.worker_runs.specs.Visits.{IsVisit};
+ghost use Rattle.worker_laws.specs.Visits.{IsVisit};
 ghost use Rattle.agent_cells.specs.declared.fault.VisitFault.TheVariants.{StampEnd};
 ghost use Rattle.agent_cells.specs.Failed.{HasReachedEnd};
 ghost use Rattle.agent_cells.specs.Marked.{StayMarked, LeavesUnmarked};

@@ -1,5 +1,5 @@
 use Rattle.std.proofs.Common.{◌≡◌, ℕ, take}
-use Rattle.worker_runs.specs.Cells.{known_from}
+use Rattle.worker_laws.specs.Cells.{known_from}
 use Rattle.agent_cells.specs.Links.{known_of}
 use Rattle.agent_cells.proofs.collect.know_of_none.Given as goal
 

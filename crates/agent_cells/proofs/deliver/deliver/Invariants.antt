@@ -1,5 +1,5 @@
 use Rattle.std.specs.List.Sorted.{IsStrictlyIncreasing}
-use Rattle.worker_runs.specs.Cells.{peers}
+use Rattle.worker_laws.specs.Cells.{peers}
 use Rattle.agent_cells.specs.Links.{lanes_sent, AreSameTails}
 use Rattle.agent_cells.specs.Delivered.{HasDelivered}
 use Rattle.agent_cells.proofs.deliver.deliver.Given as goal

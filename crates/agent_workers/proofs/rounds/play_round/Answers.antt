@@ -1,5 +1,5 @@
 use Rattle.std.proofs.Common.{length, max, ap, ◌∙◌, arith}
-use Rattle.worker_runs.specs.NodeRounds.{home}
+use Rattle.worker_laws.specs.OneNode.{home}
 use Rattle.agent_workers.proofs.SettleLaws.{settling}
 use Rattle.agent_workers.proofs.TurnLaws.{one_part_size, turn_round}
 use Rattle.agent_workers.proofs.SharedLaws.{shared_round}

@@ -1,5 +1,5 @@
 use Rattle.std.proofs.Common.{None, length, sym, subst, ◌≡◌}
-use Rattle.worker_runs.specs.NodeRounds.{home}
+use Rattle.worker_laws.specs.OneNode.{home}
 use Rattle.agent_workers.specs.Watched.{IsTurnRound}
 use Rattle.agent_workers.specs.Shared.{IsSharedRound}
 use Rattle.std.specs.Prelude.{OnOk, IfErr}

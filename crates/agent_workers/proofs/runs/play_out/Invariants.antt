@@ -1,7 +1,7 @@
 use Rattle.std.proofs.Common.{◌≡◌, ◌≤◌, ◌<◌, None, false}
 use Rattle.agent_cells.specs.State.{fault_in}
-use Rattle.worker_runs.specs.CellRounds.{total}
-use Rattle.worker_runs.specs.CellRuns.{all_ended}
+use Rattle.worker_laws.specs.CellRounds.{total}
+use Rattle.worker_laws.specs.CellRuns.{all_ended}
 use Rattle.agent_workers.specs.Joined.{states_of, EachIs, HasBegun, IsJoined}
 use Rattle.agent_workers.proofs.RunLaws.{PlayedSoFar}
 use Rattle.agent_workers.proofs.runs.play_out.Given as goal

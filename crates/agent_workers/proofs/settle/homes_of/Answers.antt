@@ -1,5 +1,5 @@
 use Rattle.std.proofs.Common.{◌∙◌, length-set, arith}
-use Rattle.worker_runs.specs.NodeRounds.{home as home_of}
+use Rattle.worker_laws.specs.OneNode.{home as home_of}
 use Rattle.agent_workers.proofs.SettleLaws.{homes_more}
 use Rattle.agent_workers.proofs.settle.homes_of.Goals as goal
 

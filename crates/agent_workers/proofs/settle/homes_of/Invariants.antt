@@ -1,6 +1,6 @@
 use Rattle.std.proofs.Common.{◌≡◌, ℕ, ◌<◌, length}
 use Rattle.std.specs.Prelude.{slice_index_or}
-use Rattle.worker_runs.specs.NodeRounds.{home as home_of}
+use Rattle.worker_laws.specs.OneNode.{home as home_of}
 use Rattle.agent_workers.proofs.settle.homes_of.Given as goal
 
 abbrev pub invariant-loop-agent : goal.invariant-loop-agent

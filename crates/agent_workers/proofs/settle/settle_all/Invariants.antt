@@ -1,5 +1,5 @@
 use Rattle.std.proofs.Common.{length}
-use Rattle.worker_runs.specs.NodeRounds.{home as home_of}
+use Rattle.worker_laws.specs.OneNode.{home as home_of}
 use Rattle.agent_workers.specs.Settled.{HaveSettled}
 use Rattle.agent_workers.proofs.settle.settle_all.Given as goal
 

@@ -1,6 +1,6 @@
 use Rattle.std.proofs.Common.{ℕ, length, get_or, sym, subst, arith}
 use Rattle.agent_workers.specs.Settled.{AreHomes}
-use Rattle.worker_runs.specs.NodeRounds.{home as home_of}
+use Rattle.worker_laws.specs.OneNode.{home as home_of}
 use Rattle.std.proofs.lemmas.Option.{slice_get-get_or}
 use Rattle.agent_workers.proofs.JoinLaws.{joined_still, sound_still, quiet_same}
 use Rattle.agent_workers.proofs.SettleLaws.{place_more, places_all, place_still, place_past}

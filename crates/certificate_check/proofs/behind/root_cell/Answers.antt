@@ -3,7 +3,7 @@ use Rattle.std.proofs.lemmas.List.Elements.{All-weaker}
 use Rattle.dcop_base.specs.Whole.{IsProblem}
 use Rattle.dcop_base.specs.Limits.{size_limit}
 use Rattle.certificate_text.specs.declared.certificate.Util.{Util}
-use Rattle.problem_solved.specs.Told.{told}
+use Rattle.minimised_problem.specs.Told.{told}
 use Rattle.certificate_check.proofs.FitLaws.{told_fits}
 use Rattle.certificate_check.proofs.RootLaws.{some_cell}
 use Rattle.certificate_check.proofs.behind.root_cell.Goals as goal

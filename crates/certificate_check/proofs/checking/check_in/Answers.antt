@@ -1,7 +1,7 @@
 use Rattle.std.proofs.Common.{ap, ◌∙◌}
 use Rattle.std.proofs.lemmas.Result.{IfOk-weaker}
 use Rattle.dcop_base.specs.Problem.{Dcop}
-use Rattle.problem_solved.specs.Told.{parents_told}
+use Rattle.minimised_problem.specs.Told.{parents_told}
 use Rattle.certificate_check.specs.Verdicts.{IsTreeVerdict, IsTablesVerdict}
 use Rattle.certificate_check.proofs.VerdictLaws.{parents_fit, tree_first}
 use Rattle.certificate_check.proofs.checking.check_in.Goals as goal

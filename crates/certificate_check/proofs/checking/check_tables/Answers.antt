@@ -4,9 +4,9 @@ use Rattle.dcop_base.specs.Whole.{IsProblem}
 use Rattle.problem_text.specs.File.{TextFile}
 use Rattle.certificate_text.specs.Fits.{FitsTables}
 use Rattle.certificate_check.specs.Verdicts.{IsTablesVerdict, IsTablesExact}
-use Rattle.problem_solved.specs.Verdict.{ShowsBest}
+use Rattle.minimised_problem.specs.Verdict.{ShowsBest}
 use Rattle.certificate_check.proofs.ExactLaws.{exact_of, best_of}
-use Rattle.problem_solved.proofs.SolvedLaws.{solved_sizes}
+use Rattle.minimised_problem.proofs.SolvedLaws.{solved_sizes}
 use Rattle.certificate_check.proofs.checking.check_tables.Goals as goal
 
 pub returns-clause-exact : goal.returns-clause-exact

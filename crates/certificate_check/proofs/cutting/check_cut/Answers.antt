@@ -3,8 +3,8 @@ use Rattle.std.proofs.lemmas.Result.{IfOk-weaker}
 use Rattle.dcop_base.specs.Whole.{IsProblem}
 use Rattle.problem_text.specs.File.{TextFile}
 use Rattle.certificate_text.specs.Fits.{FitsCut}
-use Rattle.problem_solved.specs.Verdict.{ShowsBest}
-use Rattle.problem_solved.proofs.SolvedLaws.{solved_sizes}
+use Rattle.minimised_problem.specs.Verdict.{ShowsBest}
+use Rattle.minimised_problem.proofs.SolvedLaws.{solved_sizes}
 use Rattle.certificate_check.specs.Verdicts.{IsCutVerdict, IsCutExact}
 use Rattle.certificate_check.proofs.CutExactLaws.{cut_exact_of, cut_best_of}
 use Rattle.certificate_check.proofs.TurnLaws.{some_turn}

@@ -3,7 +3,7 @@ use Rattle.std.specs.List.{position_or_len}
 use Rattle.std.specs.Option.{is_none}
 use Rattle.std.proofs.lemmas.Result.{IfOk-weaker}
 use Rattle.dcop_base.specs.Problem.{Dcop}
-use Rattle.problem_solved.specs.Told.{parents_told}
+use Rattle.minimised_problem.specs.Told.{parents_told}
 use Rattle.certificate_text.specs.Turns.{first_tables}
 use Rattle.certificate_check.specs.Verdicts.{IsTreeVerdict, IsCutVerdict}
 use Rattle.certificate_check.proofs.RootLaws.{root_is, root_below}

@@ -1,6 +1,6 @@
 use Rattle.std.proofs.Common.{◌≡◌, map, take}
 use Rattle.pseudotree.specs.Tree.{children_of}
-use Rattle.problem_solved.specs.Told.{told}
+use Rattle.minimised_problem.specs.Told.{told}
 use Rattle.certificate_check.proofs.parts.child_tables.Given as goal
 
 abbrev pub invariant-loop-child : goal.invariant-loop-child

@@ -5,7 +5,7 @@ use Rattle.pseudotree.specs.Pseudotree.{separator_of}
 use Rattle.pseudotree.proofs.PlaceLaws.{separator_is}
 use Rattle.certificate_text.specs.declared.certificate.Util.{Util}
 use Rattle.certificate_text.specs.declared.verdict.Differs.TheVariants.{Scope}
-use Rattle.problem_solved.specs.Told.{told}
+use Rattle.minimised_problem.specs.Told.{told}
 use Rattle.certificate_check.proofs.scopes.scope_difference.Goals as goal
 
 pub util_of-requires : goal.util_of-requires

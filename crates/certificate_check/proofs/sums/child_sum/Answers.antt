@@ -1,7 +1,7 @@
 use Rattle.std.proofs.Common.{get_or}
 use Rattle.dcop_base.specs.Values.{cell_with}
 use Rattle.certificate_text.specs.Fits.{FitsUtil}
-use Rattle.problem_solved.specs.Told.{sized}
+use Rattle.minimised_problem.specs.Told.{sized}
 use Rattle.certificate_check.proofs.PartLaws.{target_all, capped_more}
 use Rattle.certificate_check.proofs.sums.child_sum.Goals as goal
 

@@ -1,7 +1,7 @@
 use Rattle.std.proofs.Common.{◌≡◌, min, take, get_or}
 use Rattle.std.specs.List.{sum_by}
 use Rattle.dcop_base.specs.Values.{cell_with}
-use Rattle.problem_solved.specs.Told.{sized}
+use Rattle.minimised_problem.specs.Told.{sized}
 use Rattle.certificate_check.proofs.PartLaws.{targets}
 use Rattle.certificate_check.proofs.sums.child_sum.Given as goal
 

@@ -1,6 +1,6 @@
 use Rattle.std.proofs.Common.{◌≡◌, map}
 use Rattle.std.specs.List.{range_with_len}
-use Rattle.problem_solved.specs.Told.{told}
+use Rattle.minimised_problem.specs.Told.{told}
 use Rattle.certificate_check.proofs.told.parents_of.Given as goal
 
 abbrev pub invariant-loop-index : goal.invariant-loop-index

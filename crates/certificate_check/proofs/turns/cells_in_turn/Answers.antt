@@ -1,6 +1,6 @@
 use Rattle.std.proofs.Common.{sym, subst}
 use Rattle.certificate_text.specs.declared.certificate.Turn.{Turn}
-use Rattle.cut_laws.specs.Slice.{AreCutValues}
+use Rattle.run_laws.specs.Slice.{AreCutValues}
 use Rattle.certificate_check.proofs.TurnLaws.{IsTurnOf, turn_same, cut_is, turn_within, tree_in, fits_in, apart_in, told_cells}
 use Rattle.certificate_check.proofs.turns.cells_in_turn.Goals as goal
 

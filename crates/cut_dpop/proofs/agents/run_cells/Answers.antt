@@ -2,9 +2,9 @@ use Rattle.std.proofs.Common.{ℕ, ◌*◌, ◌-◌, List, length, ap, subst, �
 use Rattle.dcop_base.specs.Problem.{Dcop}
 use Rattle.protocol_steps.specs.Outcomes.{HaveRun}
 use Rattle.delivery_core.specs.Agents.{agents_of}
-use Rattle.worker_runs.specs.CellRuns.{IsCellOutcome}
+use Rattle.worker_laws.specs.CellRuns.{IsCellOutcome}
 use Rattle.agent_workers.specs.Joined.{states_of}
-use Rattle.agent_seats.proofs.CellLaws.{seats_ready}
+use Rattle.agent_links.proofs.CellLaws.{seats_ready}
 use Rattle.cut_dpop.specs.Start.{turn_deliveries}
 use Rattle.cut_dpop.proofs.RunLaws.{have_run_of}
 use Rattle.cut_dpop.proofs.AgreedLaws.{if-ok}

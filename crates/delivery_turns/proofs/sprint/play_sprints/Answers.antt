@@ -2,7 +2,7 @@ use Rattle.std.proofs.Common.{◌≤◌, List, sym, ◌∙◌, arith}
 use Rattle.std.specs.List.{flat_map}
 use Rattle.protocol_steps.specs.declared.event.Event.{Event}
 use Rattle.protocol_steps.proofs.RunLaws.{rounds_are_a_run}
-use Rattle.worker_runs.proofs.CellStampLaws.{run_delivers}
+use Rattle.worker_laws.proofs.CellStampLaws.{run_delivers}
 use Rattle.delivery_core.specs.NetworkState.{most_counted}
 use Rattle.delivery_turns.proofs.PlayLaws.{over_is, stops_over, stops_spent}
 use Rattle.delivery_turns.specs.Sprints.{round_room, run_room}

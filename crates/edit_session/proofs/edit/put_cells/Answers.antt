@@ -1,7 +1,7 @@
 use Rattle.std.proofs.Common.{◌≡◌, None, sym, subst}
 use Rattle.dcop_base.specs.Table.{table_fault}
 use Rattle.dcop_base.specs.Problem.{Dcop}
-use Rattle.dpop_made.specs.Edits.{table_at}
+use Rattle.edit_session.specs.Edits.{table_at}
 use Rattle.edit_session.proofs.CellLaws.{recelled_fault}
 use Rattle.edit_session.proofs.edit.put_cells.Goals as goal
 

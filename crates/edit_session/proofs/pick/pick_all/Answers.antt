@@ -3,7 +3,7 @@ use Rattle.std.proofs.lemmas.List.{get_or_default}
 use Rattle.dcop_base.specs.Problem.{Dcop}
 use Rattle.edit_session.proofs.LoopLaws.{order_known, picked_start, picked_more, picked_all, within_count}
 use Rattle.protocol_steps.specs.Dpop.{best_value}
-use Rattle.dpop_made.specs.Held.{agent_with}
+use Rattle.edit_session.specs.Held.{agent_with}
 use Rattle.edit_session.proofs.pick.pick_all.Goals as goal
 
 pub loop-var-init : goal.loop-var-init

@@ -4,7 +4,7 @@ use Rattle.dcop_base.specs.Table.{CostTable}
 use Rattle.pseudotree.specs.Pseudotree.{separator_at}
 use Rattle.pseudotree.proofs.PlaceLaws.{separator_below}
 use Rattle.dpop_agent.specs.Joint.{IsJoint}
-use Rattle.dpop_made.specs.Held.{agent_with}
+use Rattle.edit_session.specs.Held.{agent_with}
 use Rattle.edit_session.proofs.LoopLaws.{within_count}
 use Rattle.edit_session.proofs.PickLaws.{is_pick, kept_is_held, none_kept}
 use Rattle.edit_session.proofs.pick.picked.Goals as goal

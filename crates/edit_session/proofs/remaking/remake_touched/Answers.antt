@@ -1,7 +1,7 @@
 use Rattle.std.proofs.Common.{◌≡◌, ℕ, ◌+◌, ◌-◌, ◌<◌, ◌≤◌, List, [], ◌∷◌, length, get_or, sym, ap, subst, ◌∙◌, arith}
 use Rattle.std.proofs.lemmas.List.{get_or_default}
-use Rattle.dpop_made.specs.Held.{AreHeldFrom}
-use Rattle.dpop_made.specs.Laws.{AreChildrenHeld}
+use Rattle.edit_session.specs.Held.{AreHeldFrom}
+use Rattle.edit_session.specs.MadeLaws.{AreChildrenHeld}
 use Rattle.edit_session.specs.Loops.{cells_among}
 use Rattle.edit_session.proofs.LoopLaws.{HasRemade, both_stay, remade_children, remade_others, remade_more, remade_within, remade_all, order_known}
 use Rattle.edit_session.proofs.remaking.remake_touched.Goals as goal

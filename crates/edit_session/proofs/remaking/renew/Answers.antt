@@ -1,6 +1,6 @@
 use Rattle.std.proofs.Common.{ℕ, List, Option, Some, set, sym, ap, subst}
 use Rattle.dpop_agent.specs.declared.made.Made.{Made}
-use Rattle.dpop_made.specs.Held.{AreHeldFrom}
+use Rattle.edit_session.specs.Held.{AreHeldFrom}
 use Rattle.edit_session.proofs.LoopLaws.{one_stays}
 use Rattle.edit_session.proofs.remaking.renew.Goals as goal
 

@@ -3,7 +3,7 @@ use Rattle.dcop_base.specs.Problem.{Dcop}
 use Rattle.dcop_base.specs.Whole.{IsProblem}
 use Rattle.dcop_optimum.specs.Goal.{top_of}
 use Rattle.problem_text.specs.File.{TextFile}
-use Rattle.dpop_made.specs.Edits.{with_cells}
+use Rattle.edit_session.specs.Edits.{with_cells}
 use Rattle.edit_session.specs.Session.{turned_cells}
 use Rattle.edit_session.proofs.CellLaws.{replaced, turned_may}
 use Rattle.edit_session.proofs.replacing.replace_cells.Goals as goal

@@ -3,8 +3,8 @@ use Rattle.std.proofs.lemmas.List.Elements.{length_all_zip}
 use Rattle.dcop_base.specs.Whole.{IsProblem}
 use Rattle.problem_text.specs.File.{TextFile}
 use Rattle.certificate_text.specs.declared.verdict.Verdict.{Verdict}
-use Rattle.problem_solved.specs.Verdict.{ShowsBest}
-use Rattle.log_holds.specs.Verdicts.{IsLogExact}
+use Rattle.minimised_problem.specs.Verdict.{ShowsBest}
+use Rattle.minimised_problem.specs.LogVerdicts.{IsLogExact}
 use Rattle.log_check.specs.Shows.{ShowsReport}
 use Rattle.log_check.proofs.CheckLaws.{exact_by, shows_by, best_by}
 use Rattle.log_check.proofs.checking.check_log.Goals as goal

@@ -5,8 +5,8 @@ use Rattle.dcop_base.specs.Table.{AreWithin}
 use Rattle.delivery_core.specs.Agents.{network_of}
 use Rattle.problem_text.specs.File.{TextFile}
 use Rattle.certificate_text.specs.declared.verdict.Differs.{Differs}
-use Rattle.problem_solved.proofs.SolvedLaws.{solved_sizes}
-use Rattle.log_holds.specs.Differences.{log_difference}
+use Rattle.minimised_problem.proofs.SolvedLaws.{solved_sizes}
+use Rattle.minimised_problem.specs.Differences.{log_difference}
 use Rattle.log_check.specs.Shows.{IsToldBy}
 use Rattle.log_check.proofs.CheckLaws.{within_of}
 use Rattle.log_check.proofs.DifferLaws.{fault_is, end_is, log_is, start_is}

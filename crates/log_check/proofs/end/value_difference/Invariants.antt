@@ -1,7 +1,7 @@
 use Rattle.std.proofs.Common.{◌≡◌, map, drop}
 use Rattle.protocol_steps.specs.View.{value_of}
 use Rattle.delivery_core.specs.State.{views_of}
-use Rattle.log_holds.specs.Differences.{value_difference}
+use Rattle.minimised_problem.specs.Differences.{value_difference}
 use Rattle.log_check.proofs.end.value_difference.Given as goal
 
 abbrev pub invariant-loop-at : goal.invariant-loop-at

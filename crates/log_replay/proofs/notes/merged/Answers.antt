@@ -2,7 +2,7 @@ use Rattle.std.proofs.Common.{◌≡◌, ℕ, List, length, sym, ap, subst, ◌�
 use Rattle.std.proofs.lemmas.Result.{IfOk-weaker}
 use Rattle.protocol_steps.specs.declared.event.Entry.{Entry}
 use Rattle.protocol_steps.specs.JournalStamps.{journal_at}
-use Rattle.worker_runs.specs.Merges.{AscendsAbove, IsMerge}
+use Rattle.worker_laws.specs.Merges.{AscendsAbove, IsMerge}
 use Rattle.run_log.specs.Logs.{entries_of}
 use Rattle.log_replay.specs.Notes.{NotesView, IsLogBy}
 use Rattle.log_replay.proofs.LoggedLaws.{notes_ascend, log_by}

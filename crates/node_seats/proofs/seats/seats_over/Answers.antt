@@ -1,6 +1,6 @@
 use Rattle.std.proofs.Common.{◌∙◌}
 use Rattle.agent_links.specs.Links.{rows_in}
-use Rattle.agent_seats.proofs.SeatLaws.{known_few, known_beside}
+use Rattle.agent_links.proofs.SeatLaws.{known_few, known_beside}
 use Rattle.node_seats.proofs.SeatedLaws.{known_plan, over_ends, seated_over}
 use Rattle.node_seats.proofs.seats.seats_over.Goals as goal
 

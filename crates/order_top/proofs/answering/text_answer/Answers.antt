@@ -1,4 +1,4 @@
-use Rattle.answer_edge.specs.Whole.{whole_read}
+use Rattle.answer_io.specs.Whole.{whole_read}
 use Rattle.order_top.proofs.AnswerLaws.{ordered-answered}
 use Rattle.order_top.proofs.answering.text_answer.Goals as goal
 

@@ -1,4 +1,4 @@
-use Rattle.answer_edge.proofs.ShowLaws.{shown-so, read-so, write-so, source-stays, sink-stays, status-so}
+use Rattle.answer_io.proofs.ShowLaws.{shown-so, read-so, write-so, source-stays, sink-stays, status-so}
 use Rattle.order_top.specs.Ordering.{GoesWell}
 use Rattle.order_top.proofs.AnswerLaws.{rose-answered, stays-answered, well-answered}
 use Rattle.order_top.proofs.top.order.Goals as goal

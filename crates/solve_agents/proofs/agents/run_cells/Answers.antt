@@ -1,5 +1,5 @@
 use Rattle.std.proofs.Common.{arith}
-use Rattle.agent_seats.proofs.CellLaws.{seats_ready}
+use Rattle.agent_links.proofs.CellLaws.{seats_ready}
 use Rattle.solve_agents.proofs.CrewLaws.{have_logged_by, read_ascends, read_few, read_some, read_told}
 use Rattle.solve_agents.proofs.agents.run_cells.Goals as goal
 

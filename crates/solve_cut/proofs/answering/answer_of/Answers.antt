@@ -1,8 +1,8 @@
 use Rattle.std.proofs.Common.{subst}
 use Rattle.dcop_base.specs.Whole.{IsProblem}
 use Rattle.problem_text.specs.File.{TextFile}
-use Rattle.problem_solved.specs.Goal.{problem_solved}
-use Rattle.problem_solved.proofs.SolvedLaws.{solved_problem}
+use Rattle.minimised_problem.specs.Goal.{problem_solved}
+use Rattle.minimised_problem.proofs.SolvedLaws.{solved_problem}
 use Rattle.solve_cut.specs.Cut.{IsBestCut}
 use Rattle.solve_cut.proofs.CutLaws.{one-cut, best-cut, cut-right, report-answers, refusal-answers}
 use Rattle.solve_cut.proofs.answering.answer_of.Goals as goal

@@ -1,7 +1,7 @@
 use Rattle.std.proofs.Common.{◌≡◌, List, Some, None, sym, subst, ◌∙◌}
 use Rattle.std.proofs.lemmas.Option.{none-some}
 use Rattle.problem_text.specs.File.{TextFile}
-use Rattle.problem_solved.specs.Goal.{problem_solved, solved}
+use Rattle.minimised_problem.specs.Goal.{problem_solved, solved}
 use Rattle.pseudotree.specs.DepthFirst.{dfs}
 use Rattle.pseudotree.specs.Width.{wide_of}
 use Rattle.edit_session.specs.Session.{IsOpenFault}

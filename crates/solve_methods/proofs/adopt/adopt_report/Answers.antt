@@ -2,7 +2,7 @@ use Rattle.std.proofs.Common.{◌≤◌, refl, sym, ap, subst, ◌∙◌}
 use Rattle.dcop_base.specs.Problem.{cost}
 use Rattle.dcop_optimum.specs.Goal.{top_of}
 use Rattle.problem_text.specs.File.{TextFile, IsFile}
-use Rattle.log_holds.specs.Ends.{lower_for, upper_for}
+use Rattle.minimised_problem.specs.LogEnds.{lower_for, upper_for}
 use Rattle.solve_methods.proofs.AdoptRightLaws.{upper-top, lower-top, reached-right, reached-form, reached-told}
 use Rattle.solve_methods.proofs.adopt.adopt_report.Goals as goal
 

@@ -2,7 +2,7 @@ use Rattle.std.proofs.Common.{Bool, ℕ, refl, sym, ap, subst, ◌∙◌, if◌t
 use Rattle.dcop_base.specs.Problem.{IsAssignment, cost}
 use Rattle.dcop_base.specs.Whole.{IsProblem}
 use Rattle.certificate_text.specs.declared.report.Ending.TheVariants.{Solved, Spent}
-use Rattle.log_holds.specs.Ends.{least_known}
+use Rattle.minimised_problem.specs.LogEnds.{least_known}
 use Rattle.solve_methods.proofs.AdoptRunLaws.{values-assigned, reached}
 use Rattle.solve_methods.proofs.adopt.reached_by.Goals as goal
 

@@ -1,7 +1,7 @@
 use Rattle.std.proofs.Common.{◌≡◌, Some, sym, subst}
 use Rattle.dcop_base.specs.Whole.{IsProblem}
 use Rattle.problem_text.specs.File.{TextFile}
-use Rattle.problem_solved.specs.Goal.{solved}
+use Rattle.minimised_problem.specs.Goal.{solved}
 use Rattle.solve_methods.specs.Dpop.{wide_in, AreBestChosen}
 use Rattle.solve_methods.proofs.ChosenLaws.{best_chosen, report_right, wide_told}
 use Rattle.solve_methods.proofs.dpop.dpop_answer.Goals as goal

@@ -1,6 +1,6 @@
 use Rattle.std.proofs.Common.{ℕ, sym, subst}
-use Rattle.worker_runs.specs.CellRuns.{IsRunOfCells}
-use Rattle.log_holds.specs.Holds.{agents_for}
+use Rattle.worker_laws.specs.CellRuns.{IsRunOfCells}
+use Rattle.minimised_problem.specs.LogHolds.{agents_for}
 use Rattle.solve_methods.proofs.law.adopt_reports_hold.Goals as goal
 
 pub returns : goal.returns

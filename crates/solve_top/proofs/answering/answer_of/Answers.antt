@@ -1,5 +1,5 @@
 use Rattle.std.proofs.Common.{refl, sym}
-use Rattle.answer_edge.specs.Input.{Broken, TooLong}
+use Rattle.answer_io.specs.Input.{Broken, TooLong}
 use Rattle.solve_top.proofs.AnswerLaws.{Answered-task, Answered-text, Answered-unread}
 use Rattle.solve_top.proofs.LinkAnswerLaws.{asks_tells}
 use Rattle.solve_top.proofs.LinklessLaws.{linkless-tells}

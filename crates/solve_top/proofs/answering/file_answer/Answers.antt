@@ -1,5 +1,5 @@
 use Rattle.std.proofs.Common.{refl}
-use Rattle.solve_inputs.specs.Told.{told_of}
+use Rattle.answer_io.specs.InputTold.{told_of}
 use Rattle.solve_top.specs.declared.task.FileTask.TheVariants as tasks
 use Rattle.solve_top.proofs.LinklessLaws.{file-tells}
 use Rattle.solve_top.proofs.answering.file_answer.Goals as goal

@@ -1,7 +1,7 @@
 use Rattle.std.proofs.Common.{None, inl, length, sym, subst}
 use Rattle.dcop_base.specs.Whole.{IsProblem}
 use Rattle.problem_text.specs.File.{TextFile, IsFile}
-use Rattle.solve_inputs.specs.Told.{told_of}
+use Rattle.answer_io.specs.InputTold.{told_of}
 use Rattle.solve_top.specs.declared.task.FileTask.TheVariants as tasks
 use Rattle.solve_top.specs.Nodes.{IsFaultNamed, TellsFault}
 use Rattle.solve_top.proofs.LinkAnswerLaws.{fault_belongs, fault_named, fault_tells}

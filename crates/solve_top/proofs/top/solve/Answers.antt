@@ -1,4 +1,4 @@
-use Rattle.answer_edge.proofs.ShowLaws.{write-so, sink-stays}
+use Rattle.answer_io.proofs.ShowLaws.{write-so, sink-stays}
 use Rattle.solve_top.proofs.ShowLaws.{solved-so, read-so, source-stays, link-so, differs-so, dialer-stays, complete-so, drill-so}
 use Rattle.solve_top.proofs.top.solve.Goals as goal
 

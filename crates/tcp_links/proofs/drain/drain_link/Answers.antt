@@ -1,7 +1,7 @@
 use Rattle.std.proofs.Common.{◌≡◌, ℕ, ◌-◌, ◌<◌, List, length, subst, arith}
 use Rattle.protocol_steps.specs.declared.message.Message.{Message}
 use Rattle.fifo_links.specs.Link.{taken_from}
-use Rattle.worker_runs.specs.Cells.{Lane, lane}
+use Rattle.worker_laws.specs.Cells.{Lane, lane}
 use Rattle.agent_cells.specs.State.{state_of, tails_in}
 use Rattle.tcp_links.proofs.DrainLaws.{IsSoFar, tail_still, head_then, all_taken, less_left, drained_then, stays_then, tail_quiet, cell_so_far}
 use Rattle.tcp_links.proofs.drain.drain_link.Goals as goal

@@ -1,6 +1,6 @@
 use Rattle.std.proofs.Common.{◌-◌, length}
 use Rattle.fifo_links.specs.Link.{taken_from, SameHead}
-use Rattle.worker_runs.specs.Cells.{lane}
+use Rattle.worker_laws.specs.Cells.{lane}
 use Rattle.agent_cells.specs.Settled.{TailJoins}
 use Rattle.agent_cells.specs.State.{state_of, tails_in, IsCell}
 use Rattle.agent_workers.specs.Settled.{StaysQuiet}

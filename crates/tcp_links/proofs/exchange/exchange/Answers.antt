@@ -1,12 +1,12 @@
 use Rattle.std.proofs.Common.{◌∙◌, refl, sym, ap, length, subst}
-use Rattle.worker_runs.specs.Cells.{EachAre}
-use Rattle.worker_runs.specs.NodeRounds.{home}
-use Rattle.worker_runs.proofs.EachLaws.{each_long}
-use Rattle.node_runs.specs.Wires.{HaveHeld}
+use Rattle.worker_laws.specs.Cells.{EachAre}
+use Rattle.worker_laws.specs.OneNode.{home}
+use Rattle.worker_laws.proofs.EachLaws.{each_long}
+use Rattle.worker_laws.specs.Wires.{HaveHeld}
 use Rattle.agent_cells.proofs.CellLaws.{written}
 use Rattle.agent_workers.proofs.JoinLaws.{each_stays_then}
-use Rattle.node_letters.specs.Passings.{SamePassing, AreAcross, NothingCame}
-use Rattle.letter_wires.specs.Faults.{IsByteFault}
+use Rattle.node_exchange.specs.Passings.{SamePassing, AreAcross, NothingCame}
+use Rattle.node_exchange.specs.Faults.{IsByteFault}
 use Rattle.tcp_links.specs.Faults.{IsNoDifference}
 use Rattle.tcp_links.specs.Over.{IsExchangeFault}
 use Rattle.tcp_links.proofs.ExchangeLaws.{twice_written, long_written, no_difference, nothing_came, are_across, can_drain, can_feed, still_taken, fault_on, woven_on, idle_on, caught_up, exchange_on, held_on, has_exchanged, idle_slices, emptied_slices, can_drain_slices, sent_slices, taken_slices, links_slices, links_of, sent_where_still, taken_where_still, drained_slices, can_feed_slices, fed_slices}

@@ -1,8 +1,8 @@
 use Rattle.std.proofs.Common.{List, ◌∷◌, [], ◌++◌, take, sym, ap, ◌∙◌, subst}
 use Rattle.std.proofs.lemmas.List.{take_more}
-use Rattle.worker_runs.specs.NodeRounds.{home}
-use Rattle.node_runs.specs.Wires.{Wire}
-use Rattle.node_letters.specs.Passings.{Passing}
+use Rattle.worker_laws.specs.OneNode.{home}
+use Rattle.worker_laws.specs.Wires.{Wire}
+use Rattle.node_exchange.specs.Passings.{Passing}
 use Rattle.tcp_links.specs.Woven.{AreIdle}
 use Rattle.tcp_links.proofs.WeaveLaws.{idle_push}
 use Rattle.tcp_links.proofs.idle.idle_passings.Goals as goal

@@ -1,5 +1,5 @@
 use Rattle.std.proofs.Common.{take}
-use Rattle.worker_runs.specs.NodeRounds.{home}
+use Rattle.worker_laws.specs.OneNode.{home}
 use Rattle.tcp_links.specs.Woven.{AreIdle}
 use Rattle.tcp_links.proofs.idle.idle_passings.Given as goal
 

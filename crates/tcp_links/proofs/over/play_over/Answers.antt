@@ -1,5 +1,5 @@
 use Rattle.std.proofs.Common.{ℕ, ◌+◌, ◌∙◌, Option, refl, sym, subst, arith}
-use Rattle.worker_runs.specs.NodeRounds.{home}
+use Rattle.worker_laws.specs.OneNode.{home}
 use Rattle.agent_workers.specs.Joined.{states_of}
 use Rattle.agent_workers.proofs.RunLaws.{ended_states}
 use Rattle.tcp_links.specs.Faults.{IsNoDifference}

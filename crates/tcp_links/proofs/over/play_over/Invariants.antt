@@ -1,8 +1,8 @@
 use Rattle.std.proofs.Common.{◌≡◌, ◌≤◌, ◌<◌, None, false, length}
-use Rattle.worker_runs.specs.CellRounds.{total}
-use Rattle.worker_runs.specs.CellRuns.{all_ended}
-use Rattle.worker_runs.specs.NodeRounds.{home}
-use Rattle.node_runs.specs.Wires.{HaveHeld}
+use Rattle.worker_laws.specs.CellRounds.{total}
+use Rattle.worker_laws.specs.CellRuns.{all_ended}
+use Rattle.worker_laws.specs.OneNode.{home}
+use Rattle.worker_laws.specs.Wires.{HaveHeld}
 use Rattle.agent_cells.specs.State.{fault_in}
 use Rattle.agent_workers.specs.Joined.{states_of, EachIs, HasBegun, IsJoined}
 use Rattle.agent_workers.specs.Run.{AreBusy}

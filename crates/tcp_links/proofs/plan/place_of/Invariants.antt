@@ -1,6 +1,6 @@
 use Rattle.std.proofs.Common.{◌≡◌, ℕ, ◌≤◌, length, Some, slice_get}
-use Rattle.node_runs.specs.Wires.{Wire}
-use Rattle.kept_wires.specs.Differences.{ComesBefore}
+use Rattle.worker_laws.specs.Wires.{Wire}
+use Rattle.link_records.specs.Differences.{ComesBefore}
 use Rattle.tcp_links.specs.Plans.{fresh_link}
 use Rattle.tcp_links.proofs.plan.place_of.Given as goal
 

@@ -1,5 +1,5 @@
 use Rattle.std.proofs.Common.{sym, refl}
-use Rattle.worker_runs.specs.NodeRounds.{home}
+use Rattle.worker_laws.specs.OneNode.{home}
 use Rattle.tcp_links.proofs.ExchangeLaws.{idle_slices}
 use Rattle.tcp_links.proofs.run.prepare.Goals as goal
 

@@ -1,6 +1,6 @@
 use Rattle.std.proofs.Common.{◌≡◌, false, sym, subst}
 use Rattle.std.specs.Prelude.{IfOk, OnOk, IfErr}
-use Rattle.worker_runs.specs.CellRuns.{MakesARun}
+use Rattle.worker_laws.specs.CellRuns.{MakesARun}
 use Rattle.agent_cells.specs.State.{begun_in, IsCell}
 use Rattle.agent_cells.proofs.CellLaws.{written}
 use Rattle.agent_workers.specs.Joined.{states_of, EachIs, IsJoined}
@@ -12,7 +12,7 @@ use Rattle.tcp_links.specs.Shared.{HaveRunShared}
 use Rattle.tcp_links.proofs.PlanLaws.{same_plan}
 use Rattle.tcp_links.proofs.WeaveLaws.{on_ok}
 use Rattle.tcp_links.proofs.RunLaws.{on_err, new_as, linked_as, held_as, differs_as}
-use Rattle.letter_wires.specs.Honest.{AreHonest}
+use Rattle.node_exchange.specs.Honest.{AreHonest}
 use Rattle.tcp_links.proofs.run.run_nodes.Goals as goal
 
 pub run_over-requires-clause-plan : goal.run_over-requires-clause-plan

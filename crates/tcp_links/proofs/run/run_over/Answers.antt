@@ -4,7 +4,7 @@ use Rattle.agent_workers.specs.Run.{views_of}
 use Rattle.agent_workers.proofs.JoinLaws.{sound_still}
 use Rattle.agent_workers.proofs.RoundLaws.{sound_from}
 use Rattle.agent_workers.proofs.RunLaws.{begun_all, fine_all}
-use Rattle.letter_wires.specs.Honest.{AreHonest}
+use Rattle.node_exchange.specs.Honest.{AreHonest}
 use Rattle.tcp_links.specs.declared.over.Played.{Played}
 use Rattle.tcp_links.specs.Ends.{DiffersOver}
 use Rattle.tcp_links.specs.Faults.{IsNoDifference}

@@ -1,5 +1,5 @@
 use Rattle.std.proofs.Common.{◌∙◌, ap, subst, refl}
-use Rattle.node_letters.specs.Passings.{Passing}
+use Rattle.node_exchange.specs.Passings.{Passing}
 use Rattle.tcp_links.specs.Drains.{HasDrained}
 use Rattle.tcp_links.proofs.WeaveLaws.{one_quiet, drain_can, drained_link, inside_list}
 use Rattle.tcp_links.proofs.weave.drain_at.Goals as goal

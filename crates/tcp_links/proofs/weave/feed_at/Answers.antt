@@ -1,5 +1,5 @@
 use Rattle.std.proofs.Common.{◌∙◌, ap₂, refl}
-use Rattle.kept_wires.specs.Keeping.{keeps}
+use Rattle.link_records.specs.Keeping.{keeps}
 use Rattle.tcp_links.proofs.WeaveLaws.{one_quiet, one_knows_so, feed_can, fed_link, inside_list}
 use Rattle.tcp_links.proofs.weave.feed_at.Goals as goal
 

@@ -1,5 +1,5 @@
 use Rattle.delivery_core.specs.declared.start.Start.TheVariants.{Token}
-use Rattle.agent_seats.proofs.CellLaws.{seats_ready}
+use Rattle.agent_links.proofs.CellLaws.{seats_ready}
 use Rattle.agent_workers.proofs.RunLaws.{begun_all, joined_all}
 use Rattle.test_workers.proofs.rounds.one_round.Goals as goal
 

@@ -5,10 +5,10 @@ use Rattle.problem_text.specs.File.{IsFile}
 use Rattle.problem_text.specs.Steps.{declared_by}
 use Rattle.run_log.specs.declared.log.LogEvent.{LogEvent}
 use Rattle.report_reader.specs.ReportReading.{report_read}
-use Rattle.log_holds.specs.Holds.{agents_for}
-use Rattle.solve_replay.specs.LogReads.{IsLogRead, IsPlayable}
-use Rattle.solve_replay.specs.Replaying.{log_up_to}
-use Rattle.solve_replay.proofs.ReplayLaws.{shown-fit}
+use Rattle.minimised_problem.specs.LogHolds.{agents_for}
+use Rattle.solve_printed.specs.LogReads.{IsLogRead, IsPlayable}
+use Rattle.solve_printed.specs.Replaying.{log_up_to}
+use Rattle.solve_printed.proofs.ReplayLaws.{shown-fit}
 use Rattle.trace_top.specs.Answering.{IsTrace, AnswersTrace}
 use Rattle.trace_top.proofs.LogLaws.{trace-read, refusal-read}
 use Rattle.trace_top.proofs.answering.report_trace.Goals as goal

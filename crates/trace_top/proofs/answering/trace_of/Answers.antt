@@ -4,8 +4,8 @@ use Rattle.pseudotree.specs.DepthFirst.{dfs}
 use Rattle.protocol_steps.specs.Network.{start_state}
 use Rattle.protocol_steps.specs.TreeAgents.{adopt_agents}
 use Rattle.problem_text.specs.File.{TextFile}
-use Rattle.problem_solved.specs.Goal.{problem_solved}
-use Rattle.log_holds.specs.Holds.{agents_for}
+use Rattle.minimised_problem.specs.Goal.{problem_solved}
+use Rattle.minimised_problem.specs.LogHolds.{agents_for}
 use Rattle.trace_text.specs.Trace.{Traces}
 use Rattle.trace_top.proofs.answering.trace_of.Goals as goal
 

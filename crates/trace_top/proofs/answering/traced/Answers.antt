@@ -1,8 +1,8 @@
 use Rattle.std.proofs.Common.{◌≡◌, List, ℕ, length, sym, ap, ◌∙◌}
 use Rattle.problem_text.specs.File.{TextFile, IsFile}
 use Rattle.protocol_steps.specs.Network.{Network, start_state}
-use Rattle.log_holds.specs.Holds.{agents_for}
-use Rattle.solve_replay.proofs.ReplayLaws.{fault-told}
+use Rattle.minimised_problem.specs.LogHolds.{agents_for}
+use Rattle.solve_printed.proofs.ReplayLaws.{fault-told}
 use Rattle.trace_top.proofs.LogLaws.{fault-traced}
 use Rattle.trace_top.proofs.answering.traced.Goals as goal
 

@@ -1,5 +1,5 @@
 use Rattle.std.proofs.Common.{drop}
-use Rattle.wire_edge.specs.Wire.{Gave}
+use Rattle.wire_pump.specs.Wire.{Gave}
 use Rattle.wire_pump.proofs.LaneLaws.{Receives-more}
 use Rattle.wire_pump.proofs.lane.receive.Goals as goal
 

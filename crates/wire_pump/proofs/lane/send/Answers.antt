@@ -1,5 +1,5 @@
 use Rattle.std.proofs.Common.{drop}
-use Rattle.wire_edge.specs.Wire.{Wrote}
+use Rattle.wire_pump.specs.Wire.{Wrote}
 use Rattle.wire_pump.proofs.LaneLaws.{Sends-more}
 use Rattle.wire_pump.proofs.lane.send.Goals as goal
 

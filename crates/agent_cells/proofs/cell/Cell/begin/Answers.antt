@@ -1,5 +1,5 @@
 use Rattle.std.proofs.Common.{ap}
-use Rattle.worker_runs.specs.Cells.{peers}
+use Rattle.worker_laws.specs.Cells.{peers}
 use Rattle.agent_cells.specs.Links.{lanes_taken}
 use Rattle.agent_cells.proofs.ResultLaws.{ok_of}
 use Rattle.agent_cells.proofs.CellLaws.{sound_on, tails_peers, history_begins, failed}

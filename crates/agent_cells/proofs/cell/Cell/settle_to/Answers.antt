@@ -1,7 +1,7 @@
 use Rattle.std.proofs.Common.{ℕ, List, sym, ap, ◌∙◌, subst}
 use Rattle.std.specs.List.Sorted.{IsStrictlyIncreasing}
 use Rattle.dcop_base.specs.Table.{has}
-use Rattle.worker_runs.specs.Cells.{Lane, peers}
+use Rattle.worker_laws.specs.Cells.{Lane, peers}
 use Rattle.agent_cells.specs.Links.{lanes_sent, lanes_taken, known_of}
 use Rattle.agent_cells.proofs.CellLaws.{written}
 use Rattle.agent_cells.proofs.PlainLaws.{settled_plain}

@@ -2,7 +2,7 @@ use Rattle.std.proofs.Common.{ap, ◌∙◌, refl, subst, sym, List, ℕ}
 use Rattle.std.specs.List.Sorted.{IsStrictlyIncreasing}
 use Rattle.protocol_steps.specs.Stamps.{post}
 use Rattle.protocol_steps.specs.Deeds.{posted_to}
-use Rattle.worker_runs.specs.Cells.{grown}
+use Rattle.worker_laws.specs.Cells.{grown}
 use Rattle.agent_cells.specs.Links.{lanes_sent}
 use Rattle.agent_cells.proofs.ResultLaws.{on_ok}
 use Rattle.agent_cells.proofs.CellLaws.{started_cell, written}

@@ -1,5 +1,5 @@
 use Rattle.std.proofs.Common.{refl, ap, sym, ◌∙◌, arith}
-use Rattle.worker_runs.specs.Cells.{peers}
+use Rattle.worker_laws.specs.Cells.{peers}
 use Rattle.agent_cells.specs.Links.{lanes_taken}
 use Rattle.agent_cells.proofs.ResultLaws.{passed_on, at_some, at_none}
 use Rattle.agent_cells.proofs.LookLaws.{looked_taken, looked_known, nothing_known}

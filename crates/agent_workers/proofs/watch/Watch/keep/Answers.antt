@@ -1,6 +1,6 @@
 use Rattle.std.proofs.Common.{◌∙◌, arith}
 use Rattle.std.proofs.lemmas.List.{get_or_default}
-use Rattle.worker_runs.specs.Cells.{peers}
+use Rattle.worker_laws.specs.Cells.{peers}
 use Rattle.agent_cells.specs.State.{state_of}
 use Rattle.agent_workers.proofs.WatchLaws.{keeping_none, keeping_more, keeping_all}
 use Rattle.agent_workers.proofs.watch.Watch.keep.Goals as goal

@@ -1,4 +1,4 @@
-use Rattle.worker_runs.specs.Cells.{peers}
+use Rattle.worker_laws.specs.Cells.{peers}
 use Rattle.agent_cells.specs.State.{state_of}
 use Rattle.agent_workers.proofs.WatchLaws.{IsKeeping}
 use Rattle.agent_workers.proofs.watch.Watch.keep.Given as goal

@@ -1,5 +1,5 @@
 use Rattle.std.proofs.Common.{List, ℕ, length, ap}
-use Rattle.problem_solved.proofs.SolvedLaws.{solved_sizes}
+use Rattle.minimised_problem.proofs.SolvedLaws.{solved_sizes}
 use Rattle.edit_session.proofs.StateLaws.{session_after}
 use Rattle.edit_session.proofs.session.Session.answer.Goals as goal
 

@@ -1,5 +1,5 @@
 use Rattle.std.proofs.Common.{List, refl, subst}
-use Rattle.node_runs.specs.Wires.{Wire}
+use Rattle.worker_laws.specs.Wires.{Wire}
 use Rattle.tcp_links.specs.Plans.{BelongsAt}
 use Rattle.tcp_links.proofs.PlanLaws.{same_plan, linked_plan, new_link}
 use Rattle.tcp_links.proofs.plan.NodePlan.link.Goals as goal

@@ -1,3 +1,0 @@
-pub mod SeatLaws
-pub mod EndLaws
-pub mod CellLaws

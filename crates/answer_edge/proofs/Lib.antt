@@ -1,4 +1,0 @@
-mod PassLaws
-pub mod InputLaws
-pub mod StatusLaws
-pub mod ShowLaws

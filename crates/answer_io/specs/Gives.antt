@@ -1,0 +1,45 @@
+-- What reading an input gives, as the code gives it, against what the input is read as. Running out
+-- of memory promises nothing.
+use Rattle.std.specs.Prelude.{◌≡◌, Result, Ok, Err}
+use Rattle.problem_text.specs.Kinds.{number_of_text, number_of_problem}
+use Rattle.problem_text.specs.Reading.{Parts}
+use Rattle.problem_text.specs.Steps.{declared_by}
+use Rattle.problem_text.specs.declared.fault.TextFault.{TextFault}
+use Rattle.problem_text.specs.declared.fault.TextFault.TheVariants as texts
+use Rattle.problem_text.specs.declared.file.ReadFile.{ReadFile}
+use Rattle.wcsp_text.specs.Kinds.{number_of_kind, number_of_problem as number_of_wcsp_problem}
+use Rattle.wcsp_text.specs.declared.fault.WcspFault.{WcspFault}
+use Rattle.wcsp_text.specs.declared.fault.WcspFault.TheVariants as wcsps
+use Rattle.solve_report.specs.declared.answer.Answer.{Answer}
+use Rattle.solve_report.specs.declared.answer.Answer.TheVariants.{ProblemText, WcspText}
+use Rattle.answer_io.specs.declared.fault.InputFault.{InputFault}
+use Rattle.answer_io.specs.declared.fault.InputFault.TheVariants.{Text, Wcsp, NoMemory}
+use Rattle.answer_io.specs.declared.input.ReadInput.{ReadInput}
+use Rattle.answer_io.specs.InputTold.{Told, told_of}
+
+-- a fault of a problem text, as a fault of an input
+abbrev pub fault_of_text : TextFault → InputFault
+fault_of_text (texts.Bad line kind) = Text line kind
+fault_of_text texts.NoMemory = NoMemory
+
+-- a fault of a WCSP text, as a fault of an input
+abbrev pub fault_of_wcsp : WcspFault → InputFault
+fault_of_wcsp (wcsps.Bad line kind) = Wcsp line kind
+fault_of_wcsp wcsps.NoMemory = NoMemory
+
+-- this fault refuses the input with the answer that the input is read as; running out of memory
+-- promises nothing
+abbrev pub IsRefused : {A : Type 0} → Result A Answer → InputFault → Type 0
+IsRefused outcome (Text line kind) = outcome ≡ Err (ProblemText line (number_of_text kind) (number_of_problem kind))
+IsRefused outcome (Wcsp line kind) = outcome ≡ Err (WcspText line (number_of_kind kind) (number_of_wcsp_problem kind))
+IsRefused outcome NoMemory = Unit {0}
+
+-- reading a whole input gave this result
+abbrev pub IsInput : Result Told Answer → Result ReadInput InputFault → Type 0
+IsInput outcome (Ok read) = outcome ≡ Ok (told_of read.file read.bar)
+IsInput outcome (Err fault) = IsRefused outcome fault
+
+-- reading the problem that an input begins with gave this result
+abbrev pub IsFront : Result Parts Answer → Result ReadFile InputFault → Type 0
+IsFront outcome (Ok read) = outcome ≡ Ok (record { declared = declared_by read.file; used = read.used })
+IsFront outcome (Err fault) = IsRefused outcome fault

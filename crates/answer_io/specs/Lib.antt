@@ -1,0 +1,11 @@
+pub mod Input
+pub mod Output
+pub mod Whole
+pub mod Texts
+pub mod Statuses
+pub mod Showing
+pub mod InputTold
+pub mod Fronts
+pub mod Inputs
+pub mod Gives
+pub mod WcspLaw

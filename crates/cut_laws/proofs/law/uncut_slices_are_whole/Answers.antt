@@ -1,5 +1,0 @@
-use Rattle.cut_laws.proofs.SliceLaws as laws
-use Rattle.cut_laws.proofs.law.uncut_slices_are_whole.Goals as goal
-
-pub returns : goal.returns
-returns c = laws.uncut_slices_are_whole

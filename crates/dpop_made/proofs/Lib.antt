@@ -1,4 +1,0 @@
-pub mod GraphLaws
-pub mod EditLaws
-pub mod HeldLaws
-pub mod KeptLaws

@@ -1,5 +1,0 @@
-use Rattle.dpop_made.proofs.HeldLaws as found
-use Rattle.dpop_made.proofs.law.children_may_be_joined.Goals as goal
-
-pub returns : goal.returns
-returns c = found.children_may_be_joined

@@ -1,5 +1,0 @@
-use Rattle.dpop_made.proofs.HeldLaws as found
-use Rattle.dpop_made.proofs.law.lowest_picks_are_first.Goals as goal
-
-pub returns : goal.returns
-returns c = found.lowest_picks_are_first

@@ -1,5 +1,0 @@
-use Rattle.dpop_made.proofs.HeldLaws as found
-use Rattle.dpop_made.proofs.law.made_tables_are_optima.Goals as goal
-
-pub returns : goal.returns
-returns c = found.made_tables_are_optima

@@ -1,3 +1,0 @@
-pub mod DpopRun
-pub mod Agents
-pub mod Laws

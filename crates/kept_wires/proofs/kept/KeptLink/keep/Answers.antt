@@ -1,5 +1,0 @@
-use Rattle.kept_wires.proofs.DifferLaws.{passes_one}
-use Rattle.kept_wires.proofs.kept.KeptLink.keep.Goals as goal
-
-pub returns-clause-passed : goal.returns-clause-passed
-returns-clause-passed c = passes_one _ _ c.new.result c.pass.ensures.ends.1 c.pass.ensures.ends.0 c.pass.ensures.passages

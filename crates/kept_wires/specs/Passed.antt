@@ -1,9 +1,0 @@
--- What a link has passed, given the difference that it keeps.
-use Rattle.std.specs.Prelude.{List, [], Option, Some, None}
-use Rattle.node_runs.specs.Wires.{Passage}
-use Rattle.kept_wires.specs.declared.first.FirstDifference.{FirstDifference}
-
--- the passages from the first difference on; none if there is no difference
-abbrev pub passed_since : Option FirstDifference → List Passage
-passed_since None = []
-passed_since (Some first) = first.since.items

@@ -1,3 +1,0 @@
-pub mod CarryLaws
-mod BusyLaws
-mod PassLaws

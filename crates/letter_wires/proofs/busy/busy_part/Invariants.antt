@@ -1,5 +1,0 @@
-use Rattle.letter_wires.proofs.BusyLaws.{IsSeenTo}
-use Rattle.letter_wires.proofs.busy.busy_part.Given as goal
-
-abbrev pub invariant-loop-place : goal.invariant-loop-place
-invariant-loop-place l = IsSeenTo l.place l.passings l.start l.end

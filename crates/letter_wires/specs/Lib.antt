@@ -1,4 +1,0 @@
-pub mod Faults
-pub mod Carried
-pub mod Honest
-pub mod Busy

@@ -1,0 +1,15 @@
+pub mod Goal
+pub mod Solved
+pub mod Told
+pub mod Turns
+pub mod Cells
+pub mod Gap
+pub mod Verdict
+pub mod Holds
+pub mod Utils
+pub mod LogEnds
+pub mod LogHolds
+pub mod Differences
+pub mod LogLaws
+pub mod LogVerdicts
+pub mod Found

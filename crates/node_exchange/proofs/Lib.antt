@@ -1,0 +1,8 @@
+mod PayloadLaws
+pub mod LetterLaws
+mod ReadLaws
+pub mod ReceiveLaws
+pub mod ComeLaws
+pub mod CarryLaws
+mod BusyLaws
+mod PassLaws

@@ -1,0 +1,60 @@
+use Rattle.std.proofs.Common.{◌∙◌, ◌++◌, ◌∷◌, [], sym, ap, subst}
+use Rattle.node_exchange.specs.Faults.{IsByteFault, IsNoDifference}
+use Rattle.node_exchange.specs.Honest.{AreHonest}
+use Rattle.node_exchange.proofs.LetterLaws.{all_same, all_same_then}
+use Rattle.node_exchange.proofs.ReceiveLaws.{still_apart}
+use Rattle.node_exchange.proofs.PassLaws.{err_on, nothing_on, fault_still, turned_two, first_joined, first_all, turned_honest, back_frames, back_letters, turn_come}
+use Rattle.node_exchange.proofs.pass.pass_pair.Goals as goal
+
+pub returns-in_err-there-clause-same : goal.returns-in_err-there-clause-same
+returns-in_err-there-clause-same g c = all_same c.args.passings.now
+
+pub returns-in_err-back-clause-same : goal.returns-in_err-back-clause-same
+returns-in_err-back-clause-same g c = all_same c.args.passings.now
+
+pub returns-in_err-came-clause-same : goal.returns-in_err-came-clause-same
+returns-in_err-came-clause-same g c = all_same c.args.passings.now
+
+pub returns-in_err-take_in-clause-differs : goal.returns-in_err-take_in-clause-differs
+returns-in_err-take_in-clause-differs g c = λ nodes two.
+    err_on c.from_residual-in_err-take_in.result _ (IsByteFault nodes c.args.passings.now) c.from_residual-in_err-take_in.ensures.1 (c.in_err-take_in.ensures.differs nodes two)
+
+pub take_in-requires-2 : goal.take_in-requires-2
+take_in-requires-2 g c = record { apart = still_apart c.args.passings.now c.take_in.new.passings c.take_in.ensures.same c.requires.across.1.apart }
+
+pub returns-in_err-take_in-2-clause-same : goal.returns-in_err-take_in-2-clause-same
+returns-in_err-take_in-2-clause-same g c = all_same_then c.args.passings.now c.take_in.new.passings c.take_in-2.new.passings c.take_in.ensures.same c.take_in-2.ensures.same
+
+pub returns-in_err-take_in-2-clause-differs : goal.returns-in_err-take_in-2-clause-differs
+returns-in_err-take_in-2-clause-differs g c = λ nodes two.
+    err_on c.from_residual-in_err-take_in-2.result _ (IsByteFault nodes c.args.passings.now) c.from_residual-in_err-take_in-2.ensures.1
+    (fault_still nodes c.args.passings.now c.take_in.new.passings _ c.take_in.ensures.same (c.in_err-take_in-2.ensures.differs nodes (turned_two nodes c.args.first c.args.second two)))
+
+pub returns-in_err-take_in-2-clause-honest : goal.returns-in_err-take_in-2-clause-honest
+returns-in_err-take_in-2-clause-honest g c = λ h come.
+    let joined = first_joined g.D.W.Wire.told g.D.W.Wire.is_joined c.args.wires.now.items c.remove-ends.result h c.requires.wires c.remove-ends.ensures.value in
+    let all = first_all g.D.W.Wire.told g.D.W.Wire.is_joined c.args.wires.now.items c.remove-ends.result h c.requires.wires c.remove-ends.ensures.value in
+    let carried = c.in_ok-came.ensures.honest joined all in
+    let one = c.in_ok-take_in.ensures.honest (c.as_slice.ensures ∙ carried.there ∙ c.in_ok-there.ensures.frames) c.in_ok-there.ensures.letters in
+    let two = c.in_err-take_in-2.ensures.honest (back_frames c.args.first c.args.second c.args.passings.now c.take_in.new.passings c.in_ok-back.back c.as_slice-2.result.now c.take_in.ensures.same (c.as_slice-2.ensures ∙ carried.back) c.in_ok-back.ensures.frames)
+    (back_letters c.args.first c.args.second c.args.passings.now c.take_in.new.passings c.take_in.ensures.same c.in_ok-back.ensures.letters) in
+    (nothing_on c.from_residual-in_err-take_in-2.result _ _ c.from_residual-in_err-take_in-2.ensures.1, err_on c.from_residual-in_err-take_in-2.result _ IsNoDifference c.from_residual-in_err-take_in-2.ensures.1 two.1)
+
+pub returns-clause-same : goal.returns-clause-same
+returns-clause-same g c = all_same_then c.args.passings.now c.take_in.new.passings c.take_in-2.new.passings c.take_in.ensures.same c.take_in-2.ensures.same
+
+pub returns-clause-honest : goal.returns-clause-honest
+returns-clause-honest g c = λ h come.
+    let joined = first_joined g.D.W.Wire.told g.D.W.Wire.is_joined c.args.wires.now.items c.remove-ends.result h c.requires.wires c.remove-ends.ensures.value in
+    let all = first_all g.D.W.Wire.told g.D.W.Wire.is_joined c.args.wires.now.items c.remove-ends.result h c.requires.wires c.remove-ends.ensures.value in
+    let carried = c.in_ok-came.ensures.honest joined all in
+    let one = c.in_ok-take_in.ensures.honest (c.as_slice.ensures ∙ carried.there ∙ c.in_ok-there.ensures.frames) c.in_ok-there.ensures.letters in
+    let two = c.in_ok-take_in-2.ensures.honest (back_frames c.args.first c.args.second c.args.passings.now c.take_in.new.passings c.in_ok-back.back c.as_slice-2.result.now c.take_in.ensures.same (c.as_slice-2.ensures ∙ carried.back) c.in_ok-back.ensures.frames)
+    (back_letters c.args.first c.args.second c.args.passings.now c.take_in.new.passings c.take_in.ensures.same c.in_ok-back.ensures.letters) in (
+      (
+        subst (λ ps. AreHonest g.D.W.Wire.told g.D.W.Wire.is_joined ps) (sym (c.in_ok-push.ensures.items ∙ ap (λ ps. ps ++ (c.in_ok-came.came.first, c.in_ok-came.came.second) ∷ []) c.remove-ends.ensures.items))
+            (turned_honest g.D.W.Wire.told g.D.W.Wire.is_joined c.args.wires.now.items c.in_ok-came.came.first c.in_ok-came.came.second h carried.joined carried.all),
+        turn_come c.args.first c.args.second c.requires.across.0 c.args.passings.now c.take_in.new.passings c.take_in-2.new.passings c.requires.order c.requires.across.1 come c.take_in.ensures.same one.0 two.0,
+      ),
+      tt,
+    )

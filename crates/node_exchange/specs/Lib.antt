@@ -1,0 +1,9 @@
+pub mod Payloads
+pub mod Letters
+pub mod Reads
+pub mod Passings
+pub mod FirstByte
+pub mod Faults
+pub mod Carried
+pub mod Honest
+pub mod Busy

@@ -1,5 +1,0 @@
-mod PayloadLaws
-pub mod LetterLaws
-mod ReadLaws
-pub mod ReceiveLaws
-pub mod ComeLaws

@@ -1,7 +1,0 @@
-use Rattle.std.proofs.Common.{◌≡◌, drop}
-use Rattle.own_costs.specs.Stride.{stride}
-use Rattle.own_costs.proofs.adding.stride_of.Given as goal
-
-abbrev pub invariant-loop-k : goal.invariant-loop-k
-invariant-loop-k l =
-    stride l.scope l.sizes l.var ≡ stride (drop l.k l.scope) (drop l.k l.sizes) l.var

@@ -1,3 +1,0 @@
-pub mod SolvedLaws
-pub mod TellingLaws
-pub mod CellLaws

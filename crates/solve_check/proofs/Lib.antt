@@ -1,3 +1,0 @@
-mod ToldNamedLaws
-mod LogNamedLaws
-mod NamedLaws

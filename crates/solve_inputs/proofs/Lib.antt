@@ -1,8 +1,0 @@
-mod UsedLaws
-pub mod PrefixLaws
-mod CutLaws
-mod MovedLaws
-mod LineLaws
-mod NetworkLaws
-pub mod FrontLaws
-pub mod RefusalLaws

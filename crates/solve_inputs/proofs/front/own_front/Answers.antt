@@ -1,5 +1,0 @@
-use Rattle.solve_inputs.proofs.UsedLaws.{text_used}
-use Rattle.solve_inputs.proofs.front.own_front.Goals as goal
-
-pub returns-clause-within : goal.returns-clause-within
-returns-clause-within c = text_used c.args.bytes.now _ c.in_ok-read.ensures

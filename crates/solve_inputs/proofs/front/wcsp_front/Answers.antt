@@ -1,6 +1,0 @@
-use Rattle.solve_inputs.proofs.NetworkLaws.{network_used}
-use Rattle.solve_inputs.proofs.front.wcsp_front.Goals as goal
-
-pub returns-clause-within : goal.returns-clause-within
-returns-clause-within c =
-    network_used c.args.bytes.now c.in_ok-read.ensures.reads.0 c.in_ok-read.read.used c.in_ok-read.ensures.reads.1

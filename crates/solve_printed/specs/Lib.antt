@@ -1,0 +1,6 @@
+pub mod Checking
+pub mod CertificateLine
+pub mod LogReads
+pub mod Rows
+pub mod Replaying
+pub mod Enclosing

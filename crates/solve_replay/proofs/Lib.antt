@@ -1,6 +1,0 @@
-mod RowLaws
-mod LineLaws
-pub mod ReplayLaws
-pub mod LogLaws
-mod BeginLaws
-mod EnclosingLaws

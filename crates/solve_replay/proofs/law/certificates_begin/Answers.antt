@@ -1,5 +1,0 @@
-use Rattle.solve_replay.proofs.BeginLaws as found
-use Rattle.solve_replay.proofs.law.certificates_begin.Goals as goal
-
-pub returns : goal.returns
-returns c = found.certificates_begin

@@ -1,5 +1,0 @@
-pub mod CertificateLine
-pub mod LogReads
-pub mod Rows
-pub mod Replaying
-pub mod Enclosing

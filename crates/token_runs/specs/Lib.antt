@@ -1,3 +1,0 @@
-pub mod TokenRun
-pub mod Agents
-pub mod Laws

@@ -1,6 +1,0 @@
-use Rattle.std.proofs.Common.{◌≡◌, map, take}
-use Rattle.tree_search.specs.Found.{path_on}
-use Rattle.tree_search.proofs.search.paths_found.Given as goal
-
-abbrev pub invariant-loop-agent : goal.invariant-loop-agent
-invariant-loop-agent l = l.paths.items ≡ map path_on (take l.agent l.places)

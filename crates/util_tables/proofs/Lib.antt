@@ -1,6 +1,0 @@
-pub mod RunLaws
-pub mod MadeLaws
-mod OnceLaws
-mod ScopeLaws
-pub mod UtilLaws
-mod CellLaws

@@ -1,7 +1,0 @@
-use Rattle.std.proofs.Common.{◌≡◌, map, take}
-use Rattle.pseudotree.specs.Pseudotree.{separator_at}
-use Rattle.util_tables.specs.Utils.{util_with}
-use Rattle.util_tables.proofs.making.utils_with.Given as goal
-
-abbrev pub invariant-loop-var : goal.invariant-loop-var
-invariant-loop-var l = l.utils.items ≡ map (util_with (separator_at l.tree) l.tree.paths l.tables) (take l.var-index l.vars)

@@ -1,0 +1,17 @@
+pub mod Cells
+pub mod Visits
+pub mod Acts
+pub mod Sprints
+pub mod CellRounds
+pub mod Merges
+pub mod CellRuns
+pub mod StampCounts
+pub mod WorkerLaws
+pub mod OneNode
+pub mod Played
+pub mod Wires
+pub mod Exchanges
+pub mod Links
+pub mod NodeRounds
+pub mod NodeRuns
+pub mod NodeStamps

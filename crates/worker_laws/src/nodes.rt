@@ -1,0 +1,38 @@
+//! Laws on cells in nodes.
+
+ghost use Rattle.worker_laws.specs.Links.{LinksAreExchanged};
+ghost use Rattle.worker_laws.specs.NodeRuns.{NodesMakeARun, NodesAreOne, PlayedNodesMakeRuns};
+ghost use Rattle.worker_laws.specs.NodeStamps.{NodeStampsAreFew};
+
+/// Cells in nodes have made a run from the agents' start views, if in each exchange exactly what
+/// was sent on each link between nodes arrived. The cells have started, were played in rounds under
+/// a budget of deliveries with an exchange between the nodes before each round, and have every link
+/// exchanged and settled at the end. At the end of each round, what was taken on any link is the
+/// first part of what was sent on it.
+pub fn nodes_make_a_run()
+    ensures { NodesMakeARun }
+{}
+
+/// Rounds of cells in nodes are rounds as in one node, with every link settled at their end, if in
+/// each exchange exactly what was sent on each link between nodes arrived.
+pub fn nodes_are_one()
+    ensures { NodesAreOne }
+{}
+
+/// Cells in nodes are played round by round, and have made a run when playing stops: when all
+/// agents have ended, when the budget is spent, or when a round took nothing.
+pub fn played_nodes_make_runs()
+    ensures { PlayedNodesMakeRuns }
+{}
+
+/// If each link between nodes was exchanged, and agents with no link between them sent each other
+/// nothing, the exchange is complete.
+pub fn links_are_exchanged()
+    ensures { LinksAreExchanged }
+{}
+
+/// Stamps do not run out if in each exchange exactly what was sent arrived: no stamp of a cell, nor
+/// of what it took last, is above the number of messages taken.
+pub fn node_stamps_are_few()
+    ensures { NodeStampsAreFew }
+{}

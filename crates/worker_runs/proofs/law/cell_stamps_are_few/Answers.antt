@@ -1,5 +1,0 @@
-use Rattle.worker_runs.proofs.CellStampLaws as found
-use Rattle.worker_runs.proofs.law.cell_stamps_are_few.Goals as goal
-
-pub returns : goal.returns
-returns c = found.cell_stamps_are_few

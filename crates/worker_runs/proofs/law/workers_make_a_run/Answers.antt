@@ -1,5 +1,0 @@
-use Rattle.worker_runs.proofs.CellRunLaws as found
-use Rattle.worker_runs.proofs.law.workers_make_a_run.Goals as goal
-
-pub returns : goal.returns
-returns c = found.workers_make_a_run
