@@ -58,6 +58,18 @@ make_crate() {
     (cd "$folder/crates/$1" && rt "$2" > "$folder/told" 2> "$folder/log") || { tail -n 40 "$folder/told" "$folder/log"; exit 1; }
 }
 
+# Makes the program of a crate of the copy, as `built`.
+# arguments: the crate, and a word if it is not to be proved
+make_program() {
+    built="$folder/crates/$1/out/$1"
+    if [ -z "$2" ]; then
+        make_crate "$1" run < /dev/null
+    else
+        built="$folder/$1"
+        "$top/bench/unproved.sh" "$built" "$1" "$folder/crates"
+    fi
+}
+
 # Builds a program of plain Rust on a static library of the copy, as `NAME` in the folder.
 # arguments: the library, the program's source in bench, its name
 build_on() {

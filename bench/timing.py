@@ -1,5 +1,5 @@
 """How long commands take."""
-import os, resource, signal, subprocess, time
+import os, resource, signal, subprocess, tempfile, time
 
 
 def once(words, path):
@@ -10,6 +10,13 @@ def once(words, path):
         out = child.stdout.read()
         _, status, used = os.wait4(child.pid, 0)
         return time.perf_counter() - begin, os.waitstatus_to_exitcode(status), used.ru_maxrss / 1024, out
+
+
+def peak(words, path):
+    """The memory of a command on a file in MB, told by GNU time. What `once` tells is at least the memory of this process."""
+    with open(path) as text, tempfile.NamedTemporaryFile("r") as told:
+        subprocess.run(["time", "-f", "%M", "-o", told.name, *words], stdin=text, stdout=subprocess.DEVNULL)
+        return int(told.read().split()[-1]) / 1024
 
 
 def best(words, path, runs=5, status=0):
@@ -48,3 +55,9 @@ def spent(words, path, limit, short=0.2, runs=3):
             return limit, None
         times.append(used.ru_utime + used.ru_stime)
     return min(times), status
+
+
+def told(what, ratio, goal, most=False, more=""):
+    """A row of a table: what is compared, the ratio, its goal, and whether that is met. The goal is the least or the most that is wanted."""
+    met = ratio <= goal if most else ratio >= goal
+    return f"{what:<64} ratio {ratio:5.2f}, goal at {'most' if most else 'least'} {goal}: {'met' if met else 'missed'}{more and '; ' + more}"

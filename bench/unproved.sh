@@ -1,9 +1,10 @@
 #!/usr/bin/env bash
 # Builds `dcop`, or another program of this repository, without proofs, to measure a change before it is proved. `./build --quick` runs it too.
 #
-# usage: bench/unproved.sh OUT [CRATE]
-# OUT is where the program goes; CRATE is that of the program, `solve_cli` where none is told. The file that is made stands behind no
-# proof, and is for measuring and for a first look alone: the gate never runs it.
+# usage: bench/unproved.sh OUT [CRATE [FOLDER]]
+# OUT is where the program goes; CRATE is that of the program, `solve_cli` where none is told; FOLDER is that of all crates, `crates` of
+# this repository where none is told. The file that is made stands behind no proof, and is for measuring and for a first look alone: the
+# gate never runs it.
 #
 # `rt try` compiles from the sources without proofs, and tests while the program runs what proofs would show. This script has it
 # compile with a folder of tools whose compiler keeps the module that it is given, takes the tests out of that, and compiles the rest as
@@ -11,9 +12,10 @@
 # proved knows more of its loops: so compare two such builds with each other, and not with a proved one. It takes four
 # minutes of a processor and 4 GB of memory, mostly for the two compilations.
 set -eu
-out=$(realpath -m "${1:?usage: bench/unproved.sh OUT [CRATE]}")
+out=$(realpath -m "${1:?usage: bench/unproved.sh OUT [CRATE [FOLDER]]}")
 crate=${2:-solve_cli}
 . "$(dirname "$0")/common.sh"
+crates=$(realpath "${3:-$top/crates}")
 kit=$(dirname "$(dirname "$(readlink -f "$(command -v rt)")")")
 target=(--target=x86_64-unknown-linux-gnu --sysroot="$kit/toolchain" -march=x86-64 --no-default-config -no-canonical-prefixes)
 
@@ -39,7 +41,7 @@ exec "$kit/toolchain/bin/clang" "\$@"
 TOOL
 chmod +x "$folder/kit/toolchain/bin/clang"
 
-(cd "$top/crates/$crate" && python3 "$folder/kit/bin/rt" try < /dev/null > "$folder/told" 2>&1) || true
+(cd "$crates/$crate" && python3 "$folder/kit/bin/rt" try < /dev/null > "$folder/told" 2>&1) || true
 [ -f "$folder/module.bc" ] || { tail -n 30 "$folder/told"; exit 1; }
 "$kit/toolchain/bin/clang" "${target[@]}" -x ir "$folder/module.bc" -S -emit-llvm -O0 -o "$folder/module.ll" 2> "$folder/log"
 # What is tested, and the bytes that fill a variable before it is written.

@@ -2,11 +2,13 @@
 //!
 //! `harness TIMETABLE` takes the path of a problem text whose tables have one or two variables.
 
-use plain::{Agent, Context, Letter, Message, Parcel, Played, Problem, Table, Tree, play};
+use plain::{Agent, Context, Letter, Message, Parcel, Played, Problem, Tree, play};
+use problems::{Numbers, Random, random_problem, read};
 use std::hint::black_box;
 use std::time::Instant;
 
 mod plain;
+mod problems;
 
 unsafe extern "C" {
     fn bench_play(
@@ -23,39 +25,10 @@ unsafe extern "C" {
 
 const RUNS: usize = 15;
 
-/// What stands for "none" among the numbers of a problem, and among those of letters.
-const NO_VARIABLE: u32 = u32::MAX;
+/// What stands for no amount among the numbers of letters.
 const NO_AMOUNT: u64 = u64::MAX;
 
-/// A problem and its tree as numbers: each table's variables and the end of its cells, and parents.
-struct Numbers {
-    sizes: Vec<u16>,
-    firsts: Vec<u32>,
-    seconds: Vec<u32>,
-    ends: Vec<usize>,
-    cells: Vec<u64>,
-    parents: Vec<u32>,
-}
-
 impl Numbers {
-    fn new(problem: &Problem) -> Numbers {
-        let mut ends = Vec::new();
-        let mut cells = Vec::new();
-        for table in &problem.tables {
-            cells.extend_from_slice(&table.cells);
-            ends.push(cells.len());
-        }
-        let parents = Tree::new(problem).parents;
-        Numbers {
-            sizes: problem.sizes.clone(),
-            firsts: problem.tables.iter().map(|table| table.scope[0]).collect(),
-            seconds: problem.tables.iter().map(|table| table.scope.get(1).copied().unwrap_or(NO_VARIABLE)).collect(),
-            ends,
-            cells,
-            parents: parents.iter().map(|parent| parent.unwrap_or(NO_VARIABLE)).collect(),
-        }
-    }
-
     /// Plays ADOPT so often, and writes the deliveries and the end of each agent.
     fn play(&self, error: u64, budget: u64, times: u32, out: &mut [u64]) -> bool {
         // The slices are this function's own, and do not overlap.
@@ -83,38 +56,6 @@ impl Numbers {
     }
 }
 
-/// SplitMix64.
-struct Random(u64);
-
-impl Random {
-    fn word(&mut self) -> u64 {
-        self.0 = self.0.wrapping_add(0x9E37_79B9_7F4A_7C15);
-        let mut z = self.0;
-        z = (z ^ (z >> 30)).wrapping_mul(0xBF58_476D_1CE4_E5B9);
-        z = (z ^ (z >> 27)).wrapping_mul(0x94D0_49BB_1331_11EB);
-        z ^ (z >> 31)
-    }
-
-    fn table(&mut self, scope: &[u32], size: u16, top: u64) -> Table {
-        let count = usize::from(size).pow(scope.len() as u32);
-        let cells = (0..count).map(|_| self.word() % (top + 1)).collect();
-        Table { scope: scope.to_vec(), sizes: vec![size; scope.len()], cells }
-    }
-}
-
-/// The problem of the generator: each variable has tables with so many lower ones.
-fn random_problem(seed: u64, vars: u32, size: u16, degree: u32, top: u64) -> Problem {
-    let mut random = Random(seed);
-    let mut problem = Problem { sizes: vec![size; vars as usize], tables: Vec::new() };
-    for var in 1..vars {
-        for _ in 0..var.min(degree) {
-            let partner = (random.word() % u64::from(var)) as u32;
-            problem.tables.push(random.table(&[partner, var], size, top));
-        }
-    }
-    problem
-}
-
 /// A chain of four variables, the last of which has eight children; all have 16 values, and the
 /// children have tables with the chain too.
 fn fan(seed: u64) -> Problem {
@@ -128,31 +69,6 @@ fn fan(seed: u64) -> Problem {
 }
 
 const FAN_AGENT: u32 = 3;
-
-/// Reads a problem text of version 1 that is right.
-fn read(text: &str) -> Problem {
-    let mut problem = Problem::default();
-    let mut names = Vec::new();
-    for line in text.lines() {
-        let words: Vec<&str> = line.split('#').next().unwrap_or("").split_whitespace().collect();
-        match words.as_slice() {
-            ["var", name, size] => {
-                names.push(name.to_string());
-                problem.sizes.push(size.parse().expect("a size"));
-            }
-            ["table", rest @ ..] => {
-                let colon = rest.iter().position(|word| *word == ":").expect("a colon");
-                let var = |word: &&str| names.iter().position(|name| name == word).expect("a name") as u32;
-                let scope: Vec<u32> = rest[..colon].iter().map(var).collect();
-                let sizes = scope.iter().map(|var| problem.sizes[*var as usize]).collect();
-                let cells = rest[colon + 1..].iter().map(|word| word.parse().expect("a cell")).collect();
-                problem.tables.push(Table { scope, sizes, cells });
-            }
-            _ => {}
-        }
-    }
-    problem
-}
 
 /// The batches as numbers, 13 for each letter: whether it is the first of a batch, the sender, the
 /// kind, an amount, an upper bound, and up to four pairs.
@@ -328,6 +244,9 @@ fn time_play(what: &str, problem: &Problem, budget: u64, times: u32) {
     let count = f64::from(times) * played.deliveries as f64;
     println!("{what} ({} deliveries, {ended}):", played.deliveries);
     tell("deliveries", count, our_time, [plain, spared]);
+    let ratio = spared / our_time;
+    let met = if ratio >= 1.0 { "met" } else { "missed" };
+    println!("{:<64} ratio {ratio:5.2}, goal at least 1.0: {met}", format!("ADOPT on {what} beside sparing agents"));
 }
 
 fn main() {
