@@ -3,8 +3,8 @@
 usage: front/python.sh front/tests/documents.py DCOP DCOP_ORDER [DCOP_SERVE [DCOP_SEARCH [DCOP_TRACE]]]
 
 DCOP, DCOP_ORDER, DCOP_SERVE, DCOP_SEARCH and DCOP_TRACE are the built programs of these names in small letters. A command is a line after `$ ` in a
-block of a document. What it has to print is below it, up to the next command or the end of the block. `..` alone means any lines, and `in 0.1 s`
-any seconds. A text that is given by `<<'EOF'` goes up to that word.
+block of a document. What it has to print is below it, up to the next command or the end of the block. `..` alone means any lines, `..` at the end
+of a line any words, and `in 0.1 s` any seconds. A text that is given by `<<'EOF'` goes up to that word.
 
 The commands of a document run one after the other in one folder, in which `examples` and `front` are those of the repository and `sefwllon` is
 that of the front. A page of the guide also has the files that the tutorial writes. Commands that need what the machine does not have (Graphviz,
@@ -67,12 +67,19 @@ def written(document: str) -> dict[str, str]:
 
 
 def is_as_expected(printed: list[str], expected: list[str]) -> bool:
-    """Whether lines are those that are expected, where `..` stands for any lines."""
+    """Whether lines are those that are expected, where `..` alone stands for any lines."""
     if not expected:
         return not printed
     if expected[0] == ANY:
         return any(is_as_expected(printed[start:], expected[1:]) for start in range(len(printed) + 1))
-    return bool(printed) and untimed(printed[0]) == untimed(expected[0]) and is_as_expected(printed[1:], expected[1:])
+    return bool(printed) and is_line(printed[0], expected[0]) and is_as_expected(printed[1:], expected[1:])
+
+
+def is_line(printed: str, expected: str) -> bool:
+    """Whether a line is the expected one, where `..` at its end stands for any words."""
+    if expected.endswith(f" {ANY}"):
+        return printed.startswith(expected.removesuffix(ANY))
+    return untimed(printed) == untimed(expected)
 
 
 def untimed(line: str) -> str:
