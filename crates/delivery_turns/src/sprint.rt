@@ -153,17 +153,17 @@ fn play_sprints<G: Gate>(
 }
 
 /// Plays the agents on this thread, in rounds from the start state, and returns the outcome. The log
-/// of the run is included exactly when one is requested; the agents are played in the same way with
-/// it and without it.
+/// of the run is included exactly when one is requested. One loop plays the agents with a log and
+/// without one, but no clause compares the two runs.
 ///
 /// A turn visits agents in ascending order. Each of them that has not ended and has something
 /// pending makes one event: it takes from each sender what is pending, at most 64 messages. The
 /// first turn of a round visits all agents. Each later turn visits those that were sent something
-/// since they were last looked at. A round ends with a turn that takes nothing, or with its 32nd
-/// turn. Playing stops when, after the start or a round, all agents have ended, the deliveries are
-/// at least `budget`, or the round had no event. So there are at most `budget` rounds. The budget
-/// must be at most 10,000,000. An agent passes the gate when it is looked at and something may wait
-/// for it.
+/// since they were last looked at; no clause says whom a turn visits. A round ends with a turn that
+/// takes nothing, or with its 32nd turn. Playing stops when, after the start or a round, all agents
+/// have ended, the deliveries are at least `budget`, or the round had no event. So there are at most
+/// `budget` rounds. The budget must be at most 10,000,000. An agent passes the gate when it is
+/// looked at and something may wait for it.
 ///
 /// # Errors
 ///
@@ -189,10 +189,8 @@ pub fn play_out_logged<G: Gate>(
     Ok(PlayedOut { outcome, log })
 }
 
-/// The outcome of agents that are played as [`play_out_logged`] plays them, without a log.
-///
-/// A run of `agent_workers` with one worker plays the same agents in this way too, with cells and
-/// links.
+/// The outcome of agents that are played by the loop of [`play_out_logged`], without a log. No
+/// clause compares the two runs.
 ///
 /// # Errors
 ///
