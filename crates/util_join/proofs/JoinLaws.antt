@@ -45,7 +45,7 @@ still-whole scope sizes old new whole count small =
 place-here : (u : ℕ) (us : List ℕ) → place_in (u ∷ us) u ≡ 0
 place-here u us = rw (eq-eqb u u refl) refl
 
-place-later : (u v : ℕ) (us : List ℕ) → eqb v u ≡ false → place_in (u ∷ us) v ≡ suc (place_in us v)
+pub place-later : (u v : ℕ) (us : List ℕ) → eqb v u ≡ false → place_in (u ∷ us) v ≡ suc (place_in us v)
 place-later u v us e = rw (eqb-swap u v ∙ e) (omega arith)
 
 place-among : (vars : List ℕ) (var : ℕ) → has vars var ≡ true → place_in vars var < length vars
@@ -56,7 +56,7 @@ place-among (v ∷ vs) var e = elim (cases_Bool (eqb v var)) [
 ]
 
 -- values of distinct variables are those of a function of the variables
-map-same : (f g : ℕ → ℕ) (us : List ℕ) → All (λ v. f v ≡ g v) us → map f us ≡ map g us
+pub map-same : (f g : ℕ → ℕ) (us : List ℕ) → All (λ v. f v ≡ g v) us → map f us ≡ map g us
 map-same f g [] all = refl
 map-same f g (u ∷ us) all =
     let first : f u ≡ g u = All-head (λ v. f v ≡ g v) u us all in

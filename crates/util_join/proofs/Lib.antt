@@ -3,3 +3,4 @@ pub mod BlockLaws
 pub mod StrideLaws
 pub mod JoinLaws
 pub mod AlikeLaws
+pub mod WindowLaws

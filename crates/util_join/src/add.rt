@@ -13,9 +13,9 @@ use crate::stride::stride_of;
 use dcop_base::{CAP, Table, VarId, product_of};
 use util_kernel::add_lanes;
 
-/// Adds a table to a joined table over these variables with these sizes and cells: each cell gains
-/// the table's cell at the same values. A sum above [`CAP`] becomes [`CAP`].
-pub(crate) fn add_cells(cells: &mut [u64], over: &[VarId], sizes: &[u16], table: &Table)
+/// Adds a table to a joined table over these variables with these sizes and cells, block by block:
+/// each cell gains the table's cell at the same values. A sum above [`CAP`] becomes [`CAP`].
+pub(crate) fn add_all(cells: &mut [u64], over: &[VarId], sizes: &[u16], table: &Table)
     requires whole { table_fault over.now sizes.now cells.old ≡ None }
     requires lies { LiesIn over.now sizes.now table.now }
     ensures whole { table_fault over.now sizes.now cells.new ≡ None }

@@ -5,7 +5,7 @@ ghost use Rattle.std.specs.List.{All};
 ghost use Rattle.dcop_base.specs.Table.{CostTable, has_repeat, product, table_fault};
 ghost use Rattle.util_join.specs.Join.{MakesJoined, LiesIn, IsSum};
 
-use crate::add::add_cells;
+use crate::window::add_cells;
 use cost_table::cells_of;
 use dcop_base::{CellList, MAX_JOINED_CELLS, NoMemory, SizeList, Table, VarList};
 use std::alloc::{AllocError, Global};

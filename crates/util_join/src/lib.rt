@@ -10,6 +10,7 @@ mod alike;
 mod joined;
 mod row;
 mod stride;
+mod window;
 
 pub use dcop_base::MAX_JOINED_CELLS;
 pub use joined::{JoinFault, Joined};

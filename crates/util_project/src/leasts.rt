@@ -50,10 +50,25 @@ fn least_cells(
     requires runs { 1 ≤ size }
     ensures { IfOk result (λ kept. AreLeastRuns cells.now blocks size 1 kept.items) }
 {
+    if size == FEW {
+        return least_fours(alloc, cells, blocks);
+    }
     let mut kept = Vec::with_capacity(alloc, blocks)?;
     for block in 0..blocks {
         let start = block * size;
         kept.push(least_of(&cells[start..start + size]))?;
+    }
+    Ok(kept)
+}
+
+/// [`least_cells`] for blocks of [`FEW`] cells.
+fn least_fours(alloc: Global, cells: &[u64], blocks: usize) -> Result<Vec<u64>, NoMemory>
+    requires { length cells.now ≡ blocks * FEW }
+    ensures { IfOk result (λ kept. AreLeastRuns cells.now blocks FEW 1 kept.items) }
+{
+    let mut kept = Vec::with_capacity(alloc, blocks)?;
+    for block in 0..blocks {
+        kept.push(least_of_four(u64x4::from_slice(&cells[block * FEW..])))?;
     }
     Ok(kept)
 }

@@ -3,7 +3,7 @@ use Rattle.dcop_base.specs.Table.{CostTable, IsTable}
 use Rattle.dcop_base.proofs.TableLaws.{parts-of}
 use Rattle.util_join.specs.Strides.{strides, along, IsBlockSum}
 use Rattle.util_join.proofs.JoinLaws.{rows-inside, still-whole, cell-gains}
-use Rattle.util_join.proofs.add.add_cells.Goals as goal
+use Rattle.util_join.proofs.add.add_all.Goals as goal
 
 pub add_block-requires-clause-full : goal.add_block-requires-clause-full
 add_block-requires-clause-full c =
