@@ -21,7 +21,7 @@ use Rattle.protocol_steps.specs.AdoptBounds.{best_lower}
 use Rattle.adopt_agent.specs.declared.stage.Stage.{Stage}
 use Rattle.adopt_agent.specs.declared.stage.Stage.TheVariants.{Waiting, Working, Ended, Failed}
 use Rattle.adopt_agent.specs.Stage.{phase_at, view_at}
-use Rattle.adopt_agent.specs.Deed.{Gives}
+use Rattle.adopt_agent.specs.Deed.{GivesAdoptStep}
 
 -- the view after these letters
 abbrev pub handled : List (ℕ × Message) → AdoptView → AdoptView
@@ -39,20 +39,20 @@ pub led_to : (all : List (ℕ × Message)) (k : ℕ) (view whole : AdoptView) �
 led_to all k view whole le leads = sym (at_drop_all (λ (ls : List (ℕ × Message)). handled ls view) all k le) ∙ leads
 
 -- the start of an ADOPT agent is that of a machine, and reaches neighbours
-pub is_start : (v w : AdoptView) (ps : List (ℕ × Message)) → Gives (adopt_start v) w ps → IsStart (AdoptKind v) (AdoptKind w) ps
+pub is_start : (v w : AdoptView) (ps : List (ℕ × Message)) → GivesAdoptStep (adopt_start v) w ps → IsStart (AdoptKind v) (AdoptKind w) ps
 unfolding start_of
 is_start v w ps g = record { viewed = ap (λ (x : AdoptView). AdoptKind x) g.viewed; sent = g.sent }
 
-pub start_reaches : (v w : AdoptView) (ps : List (ℕ × Message)) → Gives (adopt_start v) w ps → All (IsToNeighbour (AdoptKind v)) ps
+pub start_reaches : (v w : AdoptView) (ps : List (ℕ × Message)) → GivesAdoptStep (adopt_start v) w ps → All (IsToNeighbour (AdoptKind v)) ps
 unfolding start_of
 start_reaches v w ps g = All-same (IsToNeighbour (AdoptKind v)) ps (adopt_start v).sends g.sent (parcels_go_to_neighbours.started (AdoptKind v) tt).receivers
 
 -- a batch of an ADOPT agent is a step of a machine, and reaches neighbours
-pub is_step : (v w : AdoptView) (ls ps : List (ℕ × Message)) → Gives (adopt_step v ls) w ps → IsStep (AdoptKind v) ls (AdoptKind w) ps
+pub is_step : (v w : AdoptView) (ls ps : List (ℕ × Message)) → GivesAdoptStep (adopt_step v ls) w ps → IsStep (AdoptKind v) ls (AdoptKind w) ps
 unfolding step_of
 is_step v w ls ps g = record { viewed = ap (λ (x : AdoptView). AdoptKind x) g.viewed; sent = g.sent }
 
-pub step_reaches : (v w : AdoptView) (ls ps : List (ℕ × Message)) → All (IsToNeighbour (AdoptKind v)) ls → Gives (adopt_step v ls) w ps → All (IsToNeighbour (AdoptKind v)) ps
+pub step_reaches : (v w : AdoptView) (ls ps : List (ℕ × Message)) → All (IsToNeighbour (AdoptKind v)) ls → GivesAdoptStep (adopt_step v ls) w ps → All (IsToNeighbour (AdoptKind v)) ps
 unfolding step_of
 step_reaches v w ls ps near g = All-same (IsToNeighbour (AdoptKind v)) ps (adopt_step v ls).sends g.sent (parcels_go_to_neighbours.stepped (AdoptKind v) ls tt near).receivers
 

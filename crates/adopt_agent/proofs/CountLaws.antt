@@ -18,7 +18,7 @@ use Rattle.protocol_steps.specs.Values.{valued}
 use Rattle.protocol_steps.specs.Knowledge.{known_sizes, IsKnownTable}
 use Rattle.protocol_steps.specs.AdoptRange.{in_range, is_within}
 use Rattle.adopt_agent.specs.Stage.{knowing}
-use Rattle.adopt_agent.specs.Sound.{IsGround}
+use Rattle.adopt_agent.specs.Sound.{IsAdoptGround}
 
 -- a variable that a lookup finds stands there
 pub found_there : (vs ss : List ℕ) (u s : ℕ) → value_in (zip vs ss) u ≡ Some s → has vs u ≡ true
@@ -42,7 +42,7 @@ within_size : (o : Option ℕ) (s d : ℕ) → o ≡ Some s → is_within o d �
 within_size None s d e h = absurd (none-some s e)
 within_size (Some t) s d e h = let lt = ltb-true d t h in let same = same_Some t s e in omega (arith, lt, same)
 
-module _ (own : Private) (place : Place) (known : Context) (ground : IsGround own place known) where
+module _ (own : Private) (place : Place) (known : Context) (ground : IsAdoptGround own place known) where
   abbrev is_settled : ℕ → Bool
   is_settled u = eqb u own.me || (has place.path u && is_some (value_in known u))
 

@@ -26,7 +26,7 @@ use Rattle.adopt_agent.specs.declared.best.Best.{Best}
 use Rattle.adopt_agent.specs.Best.{AreBest}
 use Rattle.adopt_agent.specs.declared.stage.Stage.{Stage}
 use Rattle.adopt_agent.specs.Stage.{knowing, view_at}
-use Rattle.adopt_agent.specs.Sound.{AreAdded, AreCosts, IsGround, IsSound, RestOn}
+use Rattle.adopt_agent.specs.Sound.{AreAdded, AreCosts, IsAdoptGround, IsSound, RestOn}
 use Rattle.adopt_agent.proofs.BoundLaws.{reset_same}
 use Rattle.adopt_agent.proofs.CountLaws.{cap_more, found_there}
 use Rattle.adopt_agent.proofs.KeptLaws.{filtered_same}
@@ -183,7 +183,7 @@ ranged_other own place known u a placed range = elim (cases_Bool (eqb u own.me))
     in_path (Some size) e h = found_there place.path place.path_sizes u size e
 
 -- a value within the ranges of the path fits beside what is known
-pub ground_grows : (own : Private) (place : Place) (known : Context) (u a : ℕ) (x : Context) → IsGround own place known → in_range (knowing own place known) u a ≡ true → x ≡ put known u a → IsGround own place x
+pub ground_grows : (own : Private) (place : Place) (known : Context) (u a : ℕ) (x : Context) → IsAdoptGround own place known → in_range (knowing own place known) u a ≡ true → x ≡ put known u a → IsAdoptGround own place x
 ground_grows own place known u a x ground range is = record {
   own_fits = ground.own_fits;
   placed = ground.placed;

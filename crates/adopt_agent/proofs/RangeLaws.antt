@@ -11,7 +11,7 @@ use Rattle.protocol_steps.specs.Knowledge.{IsSize}
 use Rattle.protocol_steps.specs.Ranges.{IsContext}
 use Rattle.protocol_steps.specs.AdoptRange.{is_within, in_range, fits}
 use Rattle.adopt_agent.specs.Stage.{knowing}
-use Rattle.adopt_agent.specs.Sound.{IsGround}
+use Rattle.adopt_agent.specs.Sound.{IsAdoptGround}
 
 -- a variable and a value within the ranges of a message
 abbrev pub InRanges : ℕ × ℕ → Type 0
@@ -31,7 +31,7 @@ pair_range (v ∷ vs) (s ∷ ss) u d below sizes h = elim (cases_Bool (eqb v u))
 ]
 
 -- a context that fits the path is within the ranges of a message
-pub fits_context : (own : Private) (place : Place) (known : Context) → IsGround own place known → (c : Context) → fits (knowing own place known) c ≡ true → IsContext c
+pub fits_context : (own : Private) (place : Place) (known : Context) → IsAdoptGround own place known → (c : Context) → fits (knowing own place known) c ≡ true → IsContext c
 fits_context own place known ground [] h = All-nil InRanges
 fits_context own place known ground (p ∷ ps) h =
     let both = and_parts (in_range (knowing own place known) p.0 p.1) (fits (knowing own place known) ps) h in

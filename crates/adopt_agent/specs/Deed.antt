@@ -10,7 +10,7 @@ use Rattle.protocol_steps.specs.AdoptRange.{is_parent}
 use Rattle.protocol_steps.specs.AdoptStep.{messages_to_child}
 
 -- the agent's view and the parcels are those of a step
-pub record Gives (s : Stepped AdoptView) (view : AdoptView) (parcels : List (ℕ × Message)) : Type 0 where
+pub record GivesAdoptStep (s : Stepped AdoptView) (view : AdoptView) (parcels : List (ℕ × Message)) : Type 0 where
   pub viewed : view ≡ s.view
   pub sent : parcels ≡ s.sends
 

@@ -21,7 +21,7 @@ use Rattle.adopt_agent.specs.Costs.{Differ}
 use Rattle.adopt_agent.specs.Stage.{knowing}
 
 -- what an agent is made from, with a context over its path
-pub record IsGround (own : Private) (place : Place) (known : Context) : Type 0 where
+pub record IsAdoptGround (own : Private) (place : Place) (known : Context) : Type 0 where
   pub own_fits : IsKnowledge own
   pub placed : IsPlaceFor own place
   pub known_fits : fits (knowing own place known) known ≡ true
@@ -37,7 +37,7 @@ pub record AreAdded (own : Private) (place : Place) (known : Context) (var : ℕ
   pub each : (d : ℕ) → d < own.size → slice_index after d ≡ cap (slice_index before d + cost_with (filter (λ t. has t.scope var && counts (knowing own place known) t) own.tables) (with_own own.me d (valued known)))
 
 -- what the tables that count and name a variable add to costs of 0
-pub record AreShares (own : Private) (place : Place) (known : Context) (var : ℕ) (shares : List ℕ) : Type 0 where
+pub record AreTableShares (own : Private) (place : Place) (known : Context) (var : ℕ) (shares : List ℕ) : Type 0 where
   pub count : ℕ
   pub added : AreAdded own place known var (replicate count 0) shares
 
@@ -46,7 +46,7 @@ pub record WereShared (own : Private) (place : Place) (known : Context) (var : �
   pub before : Context
   pub others : Differ before known var
   pub costed : AreCosts own place before costs
-  pub shared : AreShares own place before var shares
+  pub shared : AreTableShares own place before var shares
 
 -- the context of each entry is part of what is known
 abbrev pub RestOn : Context → List (List Entry) → Type 0
@@ -60,7 +60,7 @@ pub record AreBacked (own : Private) (place : Place) (known : Context) (bounds :
 
 -- an agent's knowledge, costs, bounds and least bounds are consistent, and its value and amounts are within their ranges
 pub record IsSound (own : Private) (place : Place) (higher_ones : List ℕ) (error : ℕ) (known : Context) (costs : List ℕ) (knows_higher : Bool) (bounds : BoundsView) (best : Best) (value threshold last_received : ℕ) : Type 0 where
-  pub ground : IsGround own place known
+  pub ground : IsAdoptGround own place known
   pub costed : AreCosts own place known costs
   pub higher_is : higher_ones ≡ higher (knowing own place known)
   pub knows_higher_is : knows_higher ≡ names_all known (higher (knowing own place known))

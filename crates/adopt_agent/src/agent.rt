@@ -14,7 +14,7 @@ ghost use Rattle.protocol_steps.specs.AdoptRange.{fits, in_range};
 ghost use Rattle.protocol_steps.specs.AdoptStep.{adopt_start, adopt_step, allotted, back_track, choose, closed, may_end, settle, to_allot};
 ghost use Rattle.protocol_steps.specs.View.{AdoptKind, made_of};
 ghost use Rattle.adopt_agent.specs.Stage.{working};
-ghost use Rattle.adopt_agent.specs.Deed.{Gives, IsSameAgent};
+ghost use Rattle.adopt_agent.specs.Deed.{GivesAdoptStep, IsSameAgent};
 
 use crate::best::Best;
 use crate::choose;
@@ -336,7 +336,7 @@ impl AdoptAgent {
         requires started { self.old.phase ≡ working }
         requires empty { lent.items ≡ [] }
         ensures made { made_of (AdoptKind self.new) ≡ made_of (AdoptKind self.old) }
-        ensures gives { IfOk result (λ ps. Gives (back_track self.old) self.new ps.items) }
+        ensures gives { IfOk result (λ ps. GivesAdoptStep (back_track self.old) self.new ps.items) }
     {
         self.close();
         self.tell_all(lent)
@@ -348,7 +348,7 @@ impl AdoptAgent {
         requires started { self.old.phase ≡ working }
         requires empty { lent.items ≡ [] }
         ensures made { made_of (AdoptKind self.new) ≡ made_of (AdoptKind self.old) }
-        ensures gives { IfOk result (λ ps. Gives (adopt_step self.old letters.now) self.new ps.items) }
+        ensures gives { IfOk result (λ ps. GivesAdoptStep (adopt_step self.old letters.now) self.new ps.items) }
     {
         for letter in letters {
             self.handle(letter)?;
@@ -362,7 +362,7 @@ impl AdoptAgent {
         requires waiting { self.old.phase ≡ not_started }
         requires empty { lent.items ≡ [] }
         ensures made { made_of (AdoptKind self.new) ≡ made_of (AdoptKind self.old) }
-        ensures gives { IfOk result (λ ps. Gives (adopt_start self.old) self.new ps.items) }
+        ensures gives { IfOk result (λ ps. GivesAdoptStep (adopt_start self.old) self.new ps.items) }
     {
         self.value = self.best_lower();
         self.stage = Stage::Working;

@@ -6,7 +6,7 @@ ghost use Rattle.dcop_base.specs.Limits.{amount_limit};
 ghost use Rattle.dcop_base.specs.Table.{has};
 ghost use Rattle.adopt_context.specs.Context.{Context, names_all, value_in};
 ghost use Rattle.adopt_agent.specs.Costs.{IsGrown, is_alike};
-ghost use Rattle.adopt_agent.specs.Sound.{AreAdded, AreCosts, IsGround};
+ghost use Rattle.adopt_agent.specs.Sound.{AreAdded, AreCosts, IsAdoptGround};
 
 use adopt_context::AgentContext;
 use dcop_base::{NoMemory, Private, Val, VarId, VarList, stands_in};
@@ -102,7 +102,7 @@ pub(crate) fn add_tables(
     known: &AgentContext,
     var: VarId,
 )
-    requires ground { IsGround own.now place.now known.now }
+    requires ground { IsAdoptGround own.now place.now known.now }
     requires counted { length costs.old ≡ own.now.size }
     requires within { All (λ c. c ≤ amount_limit) costs.old }
     ensures { AreAdded own.now place.now known.now var costs.old costs.new }
@@ -116,7 +116,7 @@ pub(crate) fn add_tables(
 
 /// The cost of each own value by the tables that count. All of these name the agent.
 pub(crate) fn set_costs(costs: &mut [u64], own: &Private, place: &Place, known: &AgentContext)
-    requires ground { IsGround own.now place.now known.now }
+    requires ground { IsAdoptGround own.now place.now known.now }
     requires counted { length costs.old ≡ own.now.size }
     ensures { AreCosts own.now place.now known.now costs.new }
 {
@@ -133,7 +133,7 @@ pub(crate) fn add_known(
     known: &AgentContext,
     var: VarId,
 )
-    requires ground { IsGround own.now place.now known.now }
+    requires ground { IsAdoptGround own.now place.now known.now }
     requires other { (var == own.now.me) ≡ false }
     requires counted { length costs.old ≡ own.now.size }
     requires within { All (λ c. c ≤ amount_limit) costs.old }
@@ -155,7 +155,7 @@ pub(crate) fn renew(
     before: &AgentContext,
     known: &AgentContext,
 ) -> bool
-    requires ground { IsGround own.now place.now known.now }
+    requires ground { IsAdoptGround own.now place.now known.now }
     requires costed { AreCosts own.now place.now before.now costs.old }
     requires higher { higher.now ≡ filter (has place.now.path) own.now.neighbours }
     requires knows { knows_higher ≡ names_all before.now higher.now }

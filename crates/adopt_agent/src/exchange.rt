@@ -3,7 +3,7 @@
 ghost use Rattle.std.specs.Prelude.{◌≡◌, ℕ, ◌<◌, ◌≤◌, ◌-◌, ◌==◌, false, length, nat_lt, slice_index};
 ghost use Rattle.std.specs.List.{list_all};
 ghost use Rattle.dcop_base.specs.Limits.{amount_limit};
-ghost use Rattle.adopt_agent.specs.Sound.{AreCosts, AreShares, IsGround, WereShared};
+ghost use Rattle.adopt_agent.specs.Sound.{AreCosts, AreTableShares, IsAdoptGround, WereShared};
 
 use crate::costs::{add_tables, set_costs};
 use adopt_context::AgentContext;
@@ -37,9 +37,9 @@ pub(crate) fn set_shares(
     known: &AgentContext,
     var: VarId,
 )
-    requires ground { IsGround own.now place.now known.now }
+    requires ground { IsAdoptGround own.now place.now known.now }
     requires counted { length shares.old ≡ own.now.size }
-    ensures { AreShares own.now place.now known.now var shares.new }
+    ensures { AreTableShares own.now place.now known.now var shares.new }
 {
     shares.fill(0);
     add_tables(shares, own, place, known, var);
@@ -55,7 +55,7 @@ pub(crate) fn exchange(
     known: &AgentContext,
     var: VarId,
 )
-    requires ground { IsGround own.now place.now known.now }
+    requires ground { IsAdoptGround own.now place.now known.now }
     requires before { WereShared own.now place.now known.now var costs.old shares.now }
     ensures { AreCosts own.now place.now known.now costs.new }
 {

@@ -8,13 +8,13 @@ use Rattle.adopt_context.specs.Allot.{kept, reset}
 use Rattle.adopt_context.specs.Bounds.{Entry}
 use Rattle.adopt_context.specs.Context.{Context}
 use Rattle.adopt_bounds.specs.Rows.{entries_of, rows_of}
-use Rattle.adopt_bounds.specs.Totals.{AreBounds, AreParts, totals_of}
+use Rattle.adopt_bounds.specs.Totals.{AreBounds, AreEntryParts, totals_of}
 use Rattle.adopt_bounds.specs.declared.totals.Totals.{Totals}
 use Rattle.adopt_bounds.proofs.EntryLaws.{entries_append, entries_take, entries_drop}
 use Rattle.adopt_bounds.proofs.ForgetLaws.{parts_length}
 
 -- the parts of the first entries
-pub parts_take : (n w : ℕ) (ls : List ℕ) (us : List (Option ℕ)) (ss : List ℕ) (cs : List Context) → AreParts n ls us ss cs → w ≤ n → AreParts w (take w ls) (take w us) (take w ss) (take w cs)
+pub parts_take : (n w : ℕ) (ls : List ℕ) (us : List (Option ℕ)) (ss : List ℕ) (cs : List Context) → AreEntryParts n ls us ss cs → w ≤ n → AreEntryParts w (take w ls) (take w us) (take w ss) (take w cs)
 parts_take n w ls us ss cs p h = record {
   lower_count = length-take-le w ls (rw p.lower_count h);
   upper_count = length-take-le w us (rw p.upper_count h);
@@ -26,7 +26,7 @@ parts_take n w ls us ss cs p h = record {
 }
 
 -- the parts of the other entries
-pub parts_drop : (n w m : ℕ) (ls : List ℕ) (us : List (Option ℕ)) (ss : List ℕ) (cs : List Context) → AreParts n ls us ss cs → n ≡ w + m → AreParts m (drop w ls) (drop w us) (drop w ss) (drop w cs)
+pub parts_drop : (n w m : ℕ) (ls : List ℕ) (us : List (Option ℕ)) (ss : List ℕ) (cs : List Context) → AreEntryParts n ls us ss cs → n ≡ w + m → AreEntryParts m (drop w ls) (drop w us) (drop w ss) (drop w cs)
 parts_drop n w m ls us ss cs p h = record {
   lower_count = omega (arith, length-drop w ls, p.lower_count, h);
   upper_count = omega (arith, length-drop w us, p.upper_count, h);
@@ -38,8 +38,8 @@ parts_drop n w m ls us ss cs p h = record {
 }
 
 -- parts behind parts
-parts_append : (w m n : ℕ) (ls ls' : List ℕ) (us us' : List (Option ℕ)) (ss ss' : List ℕ) (cs cs' : List Context) → AreParts w ls us ss cs → AreParts m ls' us' ss' cs' → n ≡ w + m
-    → AreParts n (ls ++ ls') (us ++ us') (ss ++ ss') (cs ++ cs')
+parts_append : (w m n : ℕ) (ls ls' : List ℕ) (us us' : List (Option ℕ)) (ss ss' : List ℕ) (cs cs' : List Context) → AreEntryParts w ls us ss cs → AreEntryParts m ls' us' ss' cs' → n ≡ w + m
+    → AreEntryParts n (ls ++ ls') (us ++ us') (ss ++ ss') (cs ++ cs')
 parts_append w m n ls ls' us us' ss ss' cs cs' p q h = record {
   lower_count = omega (arith, length-append ls ls', p.lower_count, q.lower_count, h);
   upper_count = omega (arith, length-append us us', p.upper_count, q.upper_count, h);
@@ -56,7 +56,7 @@ more_rows n w = omega arith
 
 -- the first row: its parts and its totals
 pub first_parts : (w : ℕ) (ls : List ℕ) (us : List (Option ℕ)) (ss : List ℕ) (cs : List Context) (t : Totals) (ts all : List Totals) → all ≡ t ∷ ts → AreBounds w ls us ss cs all
-    → AreParts w (take w ls) (take w us) (take w ss) (take w cs)
+    → AreEntryParts w (take w ls) (take w us) (take w ss) (take w cs)
 first_parts w ls us ss cs t ts all e b =
     let long : length all ≡ suc (length ts) = ap (λ (xs : List Totals). length xs) e in
     let count : length all * w ≡ w + length ts * w = rw long (more_rows (length ts) w) in
@@ -94,7 +94,7 @@ rows_append n w row es h =
 
 -- a row before the others makes bounds again
 pub bounds_join : (w : ℕ) (ls ls' : List ℕ) (us us' : List (Option ℕ)) (ss ss' : List ℕ) (cs cs' : List Context) (t : Totals) (ts : List Totals)
-    → AreParts w ls us ss cs → t ≡ totals_of (entries_of ls us ss cs) → AreBounds w ls' us' ss' cs' ts → AreBounds w (ls ++ ls') (us ++ us') (ss ++ ss') (cs ++ cs') (t ∷ ts)
+    → AreEntryParts w ls us ss cs → t ≡ totals_of (entries_of ls us ss cs) → AreBounds w ls' us' ss' cs' ts → AreBounds w (ls ++ ls') (us ++ us') (ss ++ ss') (cs ++ cs') (t ∷ ts)
 bounds_join w ls ls' us us' ss ss' cs cs' t ts p is b = record {
   parts = parts_append w (length ts * w) (length (t ∷ ts) * w) ls ls' us us' ss ss' cs cs' p b.parts (more_rows (length ts) w);
   right =
@@ -106,7 +106,7 @@ bounds_join w ls ls' us us' ss ss' cs cs' t ts p is b = record {
 
 -- the first row was reset, and the others were
 pub reset_join : (x : Context) (w : ℕ) (ls ls' : List ℕ) (us us' : List (Option ℕ)) (ss ss' : List ℕ) (cs cs' : List Context) (old_ls : List ℕ) (old_us : List (Option ℕ)) (old_ss : List ℕ) (old_cs : List Context)
-    (t : Totals) (ts all : List Totals) → all ≡ t ∷ ts → AreParts w ls us ss cs
+    (t : Totals) (ts all : List Totals) → all ≡ t ∷ ts → AreEntryParts w ls us ss cs
     → entries_of ls us ss cs ≡ map (kept x) (entries_of (take w old_ls) (take w old_us) (take w old_ss) (take w old_cs))
     → rows_of (length ts) w (entries_of ls' us' ss' cs') ≡ reset x (rows_of (length ts) w (entries_of (drop w old_ls) (drop w old_us) (drop w old_ss) (drop w old_cs)))
     → rows_of (length all) w (entries_of (ls ++ ls') (us ++ us') (ss ++ ss') (cs ++ cs')) ≡ reset x (rows_of (length all) w (entries_of old_ls old_us old_ss old_cs))

@@ -9,24 +9,24 @@ use Rattle.adopt_context.specs.Allot.{kept}
 use Rattle.adopt_context.specs.Bounds.{Entry, blank}
 use Rattle.adopt_context.specs.Context.{Context, part_of, or_zero}
 use Rattle.adopt_bounds.specs.Rows.{entries_of}
-use Rattle.adopt_bounds.specs.Totals.{AreParts, missing_of, totals_of}
+use Rattle.adopt_bounds.specs.Totals.{AreEntryParts, missing_of, totals_of}
 use Rattle.adopt_bounds.specs.declared.totals.Totals.{Totals}
 use Rattle.adopt_bounds.proofs.EntryLaws.{entries_length, entry_is, entries_set}
 use Rattle.adopt_bounds.proofs.TotalLaws.{HoldsEntry, HasRoom, totals_after, totals_hold, totals_room}
 
 -- so many entries, by the parts
-pub parts_length : (n : ℕ) (ls : List ℕ) (us : List (Option ℕ)) (ss : List ℕ) (cs : List Context) → AreParts n ls us ss cs → length (entries_of ls us ss cs) ≡ n
+pub parts_length : (n : ℕ) (ls : List ℕ) (us : List (Option ℕ)) (ss : List ℕ) (cs : List Context) → AreEntryParts n ls us ss cs → length (entries_of ls us ss cs) ≡ n
 parts_length n ls us ss cs p = entries_length n ls us ss cs p.lower_count p.upper_count p.share_count p.context_count
 
 -- the entry at a place, by the parts
-pub part_is : (n : ℕ) (ls : List ℕ) (us : List (Option ℕ)) (ss : List ℕ) (cs : List Context) (k l : ℕ) (u : Option ℕ) (s : ℕ) (c : Context) → AreParts n ls us ss cs → k < n
+pub part_is : (n : ℕ) (ls : List ℕ) (us : List (Option ℕ)) (ss : List ℕ) (cs : List Context) (k l : ℕ) (u : Option ℕ) (s : ℕ) (c : Context) → AreEntryParts n ls us ss cs → k < n
     → get_or (entries_of ls us ss cs) k blank ≡ record { lower = get_or ls k l; upper = get_or us k u; share = get_or ss k s; context = get_or cs k c }
 part_is n ls us ss cs k l u s c p h =
     entry_is ls us ss cs k blank l u s c (rw p.lower_count h) (rw p.upper_count h) (rw p.share_count h) (rw p.context_count h)
 
 -- the parts, with one entry's written
-pub parts_set : (n : ℕ) (ls : List ℕ) (us : List (Option ℕ)) (ss : List ℕ) (cs : List Context) (k l : ℕ) (u : Option ℕ) (s : ℕ) (c : Context) → AreParts n ls us ss cs
-    → l ≤ amount_limit → IfSome u (λ x. x ≤ amount_limit) → s ≤ amount_limit → AreParts n (set ls k l) (set us k u) (set ss k s) (set cs k c)
+pub parts_set : (n : ℕ) (ls : List ℕ) (us : List (Option ℕ)) (ss : List ℕ) (cs : List Context) (k l : ℕ) (u : Option ℕ) (s : ℕ) (c : Context) → AreEntryParts n ls us ss cs
+    → l ≤ amount_limit → IfSome u (λ x. x ≤ amount_limit) → s ≤ amount_limit → AreEntryParts n (set ls k l) (set us k u) (set ss k s) (set cs k c)
 parts_set n ls us ss cs k l u s c p low high share = record {
   lower_count = length-set ls k l ∙ p.lower_count;
   upper_count = length-set us k u ∙ p.upper_count;
@@ -39,7 +39,7 @@ parts_set n ls us ss cs k l u s c p low high share = record {
 
 -- of the entries at the start so many are looked at, and those that do not rest on the context x are forgotten
 pub record IsForgetting (x : Context) (start : List Entry) (n k : ℕ) (ls : List ℕ) (us : List (Option ℕ)) (ss : List ℕ) (cs : List Context) (t : Totals) : Type 0 where
-  pub parts : AreParts n ls us ss cs
+  pub parts : AreEntryParts n ls us ss cs
   pub count : length start ≡ n
   pub right : t ≡ totals_of (entries_of ls us ss cs)
   pub entries : entries_of ls us ss cs ≡ map (kept x) (take k start) ++ drop k start
@@ -88,7 +88,7 @@ forget_next x start n k ls us ss cs t s l u c a h rests low high miss =
     }
 
 -- before the first entry
-pub forget_none : (x : Context) (n : ℕ) (ls : List ℕ) (us : List (Option ℕ)) (ss : List ℕ) (cs : List Context) (t : Totals) → AreParts n ls us ss cs → t ≡ totals_of (entries_of ls us ss cs)
+pub forget_none : (x : Context) (n : ℕ) (ls : List ℕ) (us : List (Option ℕ)) (ss : List ℕ) (cs : List Context) (t : Totals) → AreEntryParts n ls us ss cs → t ≡ totals_of (entries_of ls us ss cs)
     → IsForgetting x (entries_of ls us ss cs) n 0 ls us ss cs t
 forget_none x n ls us ss cs t p is = record { parts = p; count = parts_length n ls us ss cs p; right = is; entries = refl }
 
@@ -101,12 +101,12 @@ forget_all x start n k ls us ss cs t a h =
     ∙ ap (λ (ys : List Entry). map (kept x) start ++ ys) (drop_all k start over) ∙ append-nil (map (kept x) start)
 
 -- what the totals hold of the entry at a place
-pub totals_at : (n k : ℕ) (ls : List ℕ) (us : List (Option ℕ)) (ss : List ℕ) (cs : List Context) (t : Totals) (l : ℕ) (u : Option ℕ) → AreParts n ls us ss cs → t ≡ totals_of (entries_of ls us ss cs) → k < n
+pub totals_at : (n k : ℕ) (ls : List ℕ) (us : List (Option ℕ)) (ss : List ℕ) (cs : List Context) (t : Totals) (l : ℕ) (u : Option ℕ) → AreEntryParts n ls us ss cs → t ≡ totals_of (entries_of ls us ss cs) → k < n
     → HoldsEntry t (record { lower = get_or ls k l; upper = get_or us k u; share = get_or ss k 0; context = get_or cs k [] })
 totals_at n k ls us ss cs t l u p is h =
     let inside : k < length (entries_of ls us ss cs) = rw (parts_length n ls us ss cs p) h in
     subst (λ (e : Entry). HoldsEntry t e) (part_is n ls us ss cs k l u 0 [] p h) (totals_hold t (entries_of ls us ss cs) k inside is)
 
 -- the totals are within so many caps
-pub room_of : (n : ℕ) (ls : List ℕ) (us : List (Option ℕ)) (ss : List ℕ) (cs : List Context) (t : Totals) → AreParts n ls us ss cs → t ≡ totals_of (entries_of ls us ss cs) → HasRoom t n
+pub room_of : (n : ℕ) (ls : List ℕ) (us : List (Option ℕ)) (ss : List ℕ) (cs : List Context) (t : Totals) → AreEntryParts n ls us ss cs → t ≡ totals_of (entries_of ls us ss cs) → HasRoom t n
 room_of n ls us ss cs t p is = totals_room t ls us ss cs n is (parts_length n ls us ss cs p) p.lower_within p.upper_within

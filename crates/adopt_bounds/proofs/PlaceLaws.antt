@@ -12,7 +12,7 @@ use Rattle.adopt_context.specs.Bounds.{Entry, blank, row_at, entry_at}
 use Rattle.adopt_context.specs.Context.{Context, or_zero}
 use Rattle.adopt_context.specs.Merge.{lesser, merged, put_entry}
 use Rattle.adopt_bounds.specs.Rows.{BoundsView, entries_of, rows_of}
-use Rattle.adopt_bounds.specs.Totals.{AreBounds, AreParts, missing_of, totals_of}
+use Rattle.adopt_bounds.specs.Totals.{AreBounds, AreEntryParts, missing_of, totals_of}
 use Rattle.adopt_bounds.specs.declared.totals.Totals.{Totals}
 use Rattle.adopt_bounds.proofs.BoundsLaws.{parts_take, parts_drop}
 use Rattle.adopt_bounds.proofs.EntryLaws.{entries_take, entries_drop, entries_set, entries_blank}
@@ -29,8 +29,8 @@ pub place_fits : (n w d k : ℕ) → d < n → k < w → d * w + k < n * w
 place_fits n w d k h inside = let most = row_fits n w d h in omega (arith, most, inside)
 
 -- the parts of a row
-pub row_parts : (n w d : ℕ) (ls : List ℕ) (us : List (Option ℕ)) (ss : List ℕ) (cs : List Context) → AreParts (n * w) ls us ss cs → d < n
-    → AreParts w (take w (drop (d * w) ls)) (take w (drop (d * w) us)) (take w (drop (d * w) ss)) (take w (drop (d * w) cs))
+pub row_parts : (n w d : ℕ) (ls : List ℕ) (us : List (Option ℕ)) (ss : List ℕ) (cs : List Context) → AreEntryParts (n * w) ls us ss cs → d < n
+    → AreEntryParts w (take w (drop (d * w) ls)) (take w (drop (d * w) us)) (take w (drop (d * w) ss)) (take w (drop (d * w) cs))
 row_parts n w d ls us ss cs p h =
     let most = row_fits n w d h in
     parts_take (n * w - d * w) w (drop (d * w) ls) (drop (d * w) us) (drop (d * w) ss) (drop (d * w) cs)
@@ -67,7 +67,7 @@ row_width w d ls us ss cs ts b h =
     ∙ parts_length w (take w (drop (d * w) ls)) (take w (drop (d * w) us)) (take w (drop (d * w) ss)) (take w (drop (d * w) cs)) (row_parts (length ts) w d ls us ss cs b.parts h)
 
 -- the entry of a value and a place
-pub entry_parts : (n w d k i : ℕ) (ls : List ℕ) (us : List (Option ℕ)) (ss : List ℕ) (cs : List Context) (l : ℕ) (u : Option ℕ) (s : ℕ) (c : Context) → AreParts (n * w) ls us ss cs → d < n → k < w → i ≡ d * w + k
+pub entry_parts : (n w d k i : ℕ) (ls : List ℕ) (us : List (Option ℕ)) (ss : List ℕ) (cs : List Context) (l : ℕ) (u : Option ℕ) (s : ℕ) (c : Context) → AreEntryParts (n * w) ls us ss cs → d < n → k < w → i ≡ d * w + k
     → entry_at (rows_of n w (entries_of ls us ss cs)) d k ≡ record { lower = get_or ls i l; upper = get_or us i u; share = get_or ss i s; context = get_or cs i c }
 entry_parts n w d k i ls us ss cs l u s c p h inside is =
     let within : i < n * w = rw is (place_fits n w d k h inside) in
@@ -93,7 +93,7 @@ put_bounds w d k i ls us ss cs ts e t b h inside is low high share right =
     let rows = rows_of n w (entries_of ls us ss cs) in
     let long : length (set ts d t) ≡ n = length-set ts d t in
     record {
-      parts = subst (λ m. AreParts (m * w) (set ls i e.lower) (set us i e.upper) (set ss i e.share) (set cs i e.context)) (sym long) (parts_set (n * w) ls us ss cs i e.lower e.upper e.share e.context b.parts low high share);
+      parts = subst (λ m. AreEntryParts (m * w) (set ls i e.lower) (set us i e.upper) (set ss i e.share) (set cs i e.context)) (sym long) (parts_set (n * w) ls us ss cs i e.lower e.upper e.share e.context b.parts low high share);
       right =
           ap (λ (xs : List Totals). set xs d t) b.right
           ∙ ap (λ (x : Totals). set (map totals_of rows) d x) right
@@ -208,7 +208,7 @@ seen_small w d i ls us ss cs ts rows t b is h same at short =
     }
 
 -- the entry of a value and a place, and its index in the lists
-pub seen_entry : (n w d k i : ℕ) (ls : List ℕ) (us : List (Option ℕ)) (ss : List ℕ) (cs : List Context) (rows : List (List Entry)) (l : ℕ) (u : Option ℕ) (s : ℕ) (c : Context) → AreParts (n * w) ls us ss cs
+pub seen_entry : (n w d k i : ℕ) (ls : List ℕ) (us : List (Option ℕ)) (ss : List ℕ) (cs : List Context) (rows : List (List Entry)) (l : ℕ) (u : Option ℕ) (s : ℕ) (c : Context) → AreEntryParts (n * w) ls us ss cs
     → rows_of n w (entries_of ls us ss cs) ≡ rows → d < length rows → k < w → i ≡ d * w + k
     → entry_at rows d k ≡ record { lower = get_or ls i l; upper = get_or us i u; share = get_or ss i s; context = get_or cs i c }
 seen_entry n w d k i ls us ss cs rows l u s c p is h inside at =
@@ -333,7 +333,7 @@ pub record IsWithin (e : Entry) : Type 0 where
   pub upper : IfSome e.upper (λ x. x ≤ amount_limit)
   pub share : e.share ≤ amount_limit
 
-pub seen_within : (n w d k i : ℕ) (ls : List ℕ) (us : List (Option ℕ)) (ss : List ℕ) (cs : List Context) (rows : List (List Entry)) → AreParts (n * w) ls us ss cs
+pub seen_within : (n w d k i : ℕ) (ls : List ℕ) (us : List (Option ℕ)) (ss : List ℕ) (cs : List Context) (rows : List (List Entry)) → AreEntryParts (n * w) ls us ss cs
     → rows_of n w (entries_of ls us ss cs) ≡ rows → d < length rows → k < w → i ≡ d * w + k → IsWithin (entry_at rows d k)
 seen_within n w d k i ls us ss cs rows p is h inside at =
     let here : i < n * w = seen_index n w d k i (entries_of ls us ss cs) rows is h inside at in

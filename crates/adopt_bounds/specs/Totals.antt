@@ -25,7 +25,7 @@ abbrev pub upper_of : Totals → Option ℕ
 upper_of t = if t.missing == 0 then Some t.upper else None
 
 -- there are as many bounds, shares and contexts as entries, and all amounts are within the cap
-pub record AreParts (count : ℕ) (lower : List ℕ) (upper : List (Option ℕ)) (share : List ℕ) (contexts : List Context) : Type 0 where
+pub record AreEntryParts (count : ℕ) (lower : List ℕ) (upper : List (Option ℕ)) (share : List ℕ) (contexts : List Context) : Type 0 where
   pub lower_count : length lower ≡ count
   pub upper_count : length upper ≡ count
   pub share_count : length share ≡ count
@@ -36,5 +36,5 @@ pub record AreParts (count : ℕ) (lower : List ℕ) (upper : List (Option ℕ))
 
 -- flat lists of bounds, with the right totals for each row; a row has `width` entries
 pub record AreBounds (width : ℕ) (lower : List ℕ) (upper : List (Option ℕ)) (share : List ℕ) (contexts : List Context) (totals : List Totals) : Type 0 where
-  pub parts : AreParts (length totals * width) lower upper share contexts
+  pub parts : AreEntryParts (length totals * width) lower upper share contexts
   pub right : totals ≡ map totals_of (rows_of (length totals) width (entries_of lower upper share contexts))

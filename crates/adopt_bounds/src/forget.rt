@@ -3,7 +3,7 @@
 ghost use Rattle.std.specs.Prelude.{◌≡◌, ◌*◌, ◌<◌, ◌≤◌, length, map};
 ghost use Rattle.adopt_context.specs.Allot.{kept, reset};
 ghost use Rattle.adopt_bounds.specs.Rows.{entries_of, rows_of};
-ghost use Rattle.adopt_bounds.specs.Totals.{AreBounds, AreParts, totals_of};
+ghost use Rattle.adopt_bounds.specs.Totals.{AreBounds, AreEntryParts, totals_of};
 
 use crate::interval::Interval;
 use crate::totals::Totals;
@@ -45,9 +45,9 @@ fn forget_row(
     contexts: &mut [AgentContext],
     known: &AgentContext,
 )
-    requires parts { AreParts (length lower.old) lower.old upper.old share.old contexts.old }
+    requires parts { AreEntryParts (length lower.old) lower.old upper.old share.old contexts.old }
     requires totals { totals.old ≡ totals_of (entries_of lower.old upper.old share.old contexts.old) }
-    ensures parts { AreParts (length lower.old) lower.new upper.new share.new contexts.new }
+    ensures parts { AreEntryParts (length lower.old) lower.new upper.new share.new contexts.new }
     ensures totals { totals.new ≡ totals_of (entries_of lower.new upper.new share.new contexts.new) }
     ensures entries { entries_of lower.new upper.new share.new contexts.new
         ≡ map (kept known.now) (entries_of lower.old upper.old share.old contexts.old) }

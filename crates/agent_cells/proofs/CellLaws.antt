@@ -31,7 +31,7 @@ use Rattle.agent_cells.specs.Links.{Tail, Head, lanes_sent, lanes_taken, known_o
 use Rattle.agent_cells.specs.Collected.{HasCollected}
 use Rattle.agent_cells.specs.Handled.{IsHandled, IsAtEnd}
 use Rattle.agent_cells.specs.Failed.{HasReachedEnd}
-use Rattle.agent_cells.specs.State.{IsFresh, HasHistory, IsSound}
+use Rattle.agent_cells.specs.State.{IsFreshCell, HasHistory, IsSoundCell}
 use Rattle.agent_cells.proofs.FoundLaws.{are_gains, either-none}
 
 -- an agent knows what it was made from
@@ -93,8 +93,8 @@ pub history_begins : (v : View) (s : CellState) → started_of v ≡ false → I
 history_begins v s new h = record { made = v; unstarted = new; first = s; deeds = []; started = h; later = quiet_later s s (record { me = refl; viewed = refl; stamped = refl; noted = refl; sent = refl; taken = refl }) }
 
 -- the invariant after a call
-pub sound_on : (begun begun_on : Bool) (fault fault_on : Option VisitFault) (s t : CellState) → IsSound begun fault s → begun_on ≡ true → made_of t.view ≡ made_of s.view → t.me ≡ s.me
-    → peers t.sent ≡ peers s.sent → peers t.taken ≡ peers s.taken → (fault_on ≡ None → HasHistory t) → IsSound begun_on fault_on t
+pub sound_on : (begun begun_on : Bool) (fault fault_on : Option VisitFault) (s t : CellState) → IsSoundCell begun fault s → begun_on ≡ true → made_of t.view ≡ made_of s.view → t.me ≡ s.me
+    → peers t.sent ≡ peers s.sent → peers t.taken ≡ peers s.taken → (fault_on ≡ None → HasHistory t) → IsSoundCell begun_on fault_on t
 sound_on begun begun_on fault fault_on s t i b made me sent taken history =
     let same = same_private s.view t.view made in
     record {
@@ -197,7 +197,7 @@ lanes-empty (l ∷ ls) j h = ap₂ (λ (xs ys : List (ℕ × Message)). xs ++ ys
     (lanes-empty ls j (λ k d lt. h (suc k) d (omega (arith, lt))))
 
 pub fresh_cell : (s : CellState) → started_of s.view ≡ false → (private_of s.view).me ≡ s.me → peers s.sent ≡ (private_of s.view).neighbours → peers s.taken ≡ (private_of s.view).neighbours
-    → IsStrictlyIncreasing (private_of s.view).neighbours → s.stamp ≡ 0 → s.journal ≡ [] → All (λ l. l.messages ≡ []) s.sent → All (λ l. l.messages ≡ []) s.taken → IsSound false None s
+    → IsStrictlyIncreasing (private_of s.view).neighbours → s.stamp ≡ 0 → s.journal ≡ [] → All (λ l. l.messages ≡ []) s.sent → All (λ l. l.messages ≡ []) s.taken → IsSoundCell false None s
 fresh_cell s started me sent taken up stamp journal unsent untaken = record {
   me = me;
   sent = sent;
@@ -216,7 +216,7 @@ unposted among j (p ∷ ps) h none =
     ap₂ (λ (b : Bool) (es : List (ℕ × Message)). (if b then (0, p.1) ∷ [] else []) ++ es) apart (unposted among j ps (λ k d lt. h (suc k) d (omega (arith, lt))) none)
 
 -- a cell that has started
-pub started_cell : (s t : CellState) (sends : List (ℕ × Message)) → IsFresh s → IsStrictlyIncreasing (peers s.sent) → peers s.sent ≡ (private_of s.view).neighbours → peers t.taken ≡ (private_of s.view).neighbours
+pub started_cell : (s t : CellState) (sends : List (ℕ × Message)) → IsFreshCell s → IsStrictlyIncreasing (peers s.sent) → peers s.sent ≡ (private_of s.view).neighbours → peers t.taken ≡ (private_of s.view).neighbours
     → IsStart s.view t.view sends → GoToNeighbours s.view sends → t.stamp ≡ s.stamp → t.journal ≡ s.journal → t.taken ≡ s.taken
     → t.sent ≡ grown (λ j. posted_to j (post 0 sends)) s.sent → IsStarted s.view t
 started_cell s t sends f up tails heads start go stamp journal taken sent =
@@ -232,7 +232,7 @@ started_cell s t sends f up tails heads start go stamp journal taken sent =
     }
 
 -- the peers of a cell's heads ascend
-pub ascending : (begun : Bool) (fault : Option VisitFault) (s : CellState) (hs : List Head) (gs : List Head) → IsSound begun fault s → s.taken ≡ lanes_taken hs → gs ≡ hs → IsStrictlyIncreasing (peers (lanes_taken gs))
+pub ascending : (begun : Bool) (fault : Option VisitFault) (s : CellState) (hs : List Head) (gs : List Head) → IsSoundCell begun fault s → s.taken ≡ lanes_taken hs → gs ≡ hs → IsStrictlyIncreasing (peers (lanes_taken gs))
 ascending begun fault s hs gs i old same = subst (λ (ns : List ℕ). IsStrictlyIncreasing ns) (sym (ap (λ xs. peers (lanes_taken xs)) same ∙ sym (ap peers old) ∙ i.taken)) i.ascend
 
 -- a list written back over one of its length
@@ -247,7 +247,7 @@ pub failed : {P : Type 0} (f : VisitFault) → Some f ≡ None → P
 failed f e = absurd (cc)
 
 -- settling a link changes nothing on which the invariant depends
-pub sound_quiet : (begun : Bool) (fault : Option VisitFault) (s t : CellState) → IsSound begun fault s → IsQuiet s t → IsSound begun fault t
+pub sound_quiet : (begun : Bool) (fault : Option VisitFault) (s t : CellState) → IsSoundCell begun fault s → IsQuiet s t → IsSoundCell begun fault t
 sound_quiet begun fault s t i q = record {
   me = ap (λ (v : View). (private_of v).me) q.viewed ∙ i.me ∙ sym q.me;
   sent = ap peers q.sent ∙ i.sent ∙ sym (ap (λ (v : View). (private_of v).neighbours) q.viewed);

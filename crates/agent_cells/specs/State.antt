@@ -13,7 +13,7 @@ use Rattle.agent_cells.specs.declared.cell.Cell.{Cell}
 use Rattle.agent_cells.specs.Links.{Tail, Head, lanes_sent, lanes_taken, known_of, AreSameTails, AreSameHeads}
 
 -- an agent that has not started, with stamp 0, an empty journal and no message on its links
-pub record IsFresh (s : CellState) : Type 0 where
+pub record IsFreshCell (s : CellState) : Type 0 where
   pub started : started_of s.view ≡ false
   pub stamp : s.stamp ≡ 0
   pub journal : s.journal ≡ []
@@ -33,12 +33,12 @@ pub record HasHistory (s : CellState) : Type 0 where
 -- the invariant of a cell: its links are those of its agent's neighbours; before its start it is
 -- fresh and has no fault; after its start, unless it has failed, it has come from the start by the
 -- activations of its journal
-pub record IsSound (begun : Bool) (fault : Option VisitFault) (s : CellState) : Type 0 where
+pub record IsSoundCell (begun : Bool) (fault : Option VisitFault) (s : CellState) : Type 0 where
   pub me : (private_of s.view).me ≡ s.me
   pub sent : peers s.sent ≡ (private_of s.view).neighbours
   pub taken : peers s.taken ≡ (private_of s.view).neighbours
   pub ascend : IsStrictlyIncreasing (private_of s.view).neighbours
-  pub fresh : begun ≡ false → IsFresh s
+  pub fresh : begun ≡ false → IsFreshCell s
   pub unfailed : begun ≡ false → fault ≡ None
   pub running : begun ≡ true → fault ≡ None → HasHistory s
 
@@ -70,7 +70,7 @@ module _ {X : Type 0} {F : X → Type 0} where
   heads_in c = c.heads.items
 
   abbrev pub IsCell : (DynBox X Global F → View) → Cell X F → Type 0
-  IsCell meaning c = IsSound c.begun c.fault (state_of meaning c)
+  IsCell meaning c = IsSoundCell c.begun c.fault (state_of meaning c)
 
   -- the same ends of links at the same places
   pub record KeepsLinks (before after : Cell X F) : Type 0 where

@@ -17,7 +17,7 @@ use Rattle.agent_cells.specs.declared.cell.Cell.{Cell}
 use Rattle.agent_cells.specs.Links.{Tail, Head, lanes_sent, lanes_taken}
 use Rattle.agent_cells.specs.Settled.{EndsJoin}
 use Rattle.agent_cells.specs.State.{state_of, tails_in, heads_in}
-use Rattle.agent_workers.specs.Joined.{IsJoined}
+use Rattle.agent_workers.specs.Joined.{AreCellsJoined}
 use Rattle.agent_links.specs.Beside.{AreBeside, near}
 use Rattle.agent_links.specs.Links.{one_node, AreLinksIn, AreLinks}
 use Rattle.agent_links.specs.Ready.{IsNewCell, AreReadyIn, AreReady}
@@ -67,7 +67,7 @@ module _ {X : Type 0} {F : X → Type 0} (M : DynBox X Global F → View) (lists
     below = subst (λ (ns : List ℕ). All (λ (j : ℕ). j < length cells) ns) (sym (taken_of i c e)) (subst (λ (m : ℕ). All (λ (j : ℕ). j < m) (near b.edge n i)) (sym size) (All-filter-range (b.edge i) n));
   }
 
-  joined : IsJoined M nodes cells
+  joined : AreCellsJoined M nodes cells
   joined = record {
     few = omega (arith, few, size);
     wired = wired;

@@ -8,7 +8,7 @@ use Rattle.protocol_steps.specs.View.{View}
 use Rattle.agent_cells.specs.declared.cell.Cell.{Cell}
 use Rattle.agent_cells.specs.Links.{Tail, Head}
 use Rattle.agent_cells.specs.State.{state_of, begun_in, tails_in, heads_in, IsCell}
-use Rattle.agent_workers.specs.Joined.{EachIs, IsJoined}
+use Rattle.agent_workers.specs.Joined.{EachIs, AreCellsJoined}
 use Rattle.agent_workers.specs.Run.{views_of}
 
 -- how many messages were taken in a run that ended in this way
@@ -30,7 +30,7 @@ module _ {X : Type 0} {F : X → Type 0} where
 
   -- sound cells of agents with these views, none of which has begun, joined in `nodes` nodes
   pub record AreReadyIn (meaning : DynBox X Global F → View) (nodes : ℕ) (made : List View) (cells : List (Cell X F)) : Type 0 where
-    pub joined : IsJoined meaning nodes cells
+    pub joined : AreCellsJoined meaning nodes cells
     pub sound : EachIs (λ c. IsCell meaning c) cells
     pub fresh : EachIs (λ c. begun_in c ≡ false) cells
     pub views : views_of meaning cells ≡ made

@@ -26,7 +26,7 @@ use Rattle.worker_laws.proofs.CellStampLaws.{cell_stamps_are_few}
 use Rattle.agent_cells.specs.declared.cell.Cell.{Cell}
 use Rattle.agent_cells.specs.declared.fault.VisitFault.TheVariants.{StampEnd}
 use Rattle.agent_cells.specs.State.{state_of}
-use Rattle.agent_workers.specs.Joined.{states_of, IsJoined}
+use Rattle.agent_workers.specs.Joined.{states_of, AreCellsJoined}
 use Rattle.agent_workers.specs.Turns.{sprint_limit, SomeFailed}
 use Rattle.agent_workers.specs.Broken.{HasGoneOn, StandsOrEnds, HaveBrokenOff}
 
@@ -116,7 +116,7 @@ module _ {X : Type 0} {F : X → Type 0} (M : DynBox X Global F → View) where
   same_sent s c (inr r) = r.sent
 
   module _ (budget : ℕ) (made : List View) (started : List CellState) (now : List (Cell X F)) (last : List CellState) (starts : AreStarted made started) (broken : HaveBrokenOff M budget started now)
-      (joined : IsJoined M 1 now) (quiet : EachAre IsQuiet (states_of M now) last) (settled : AreSettled last) where
+      (joined : AreCellsJoined M 1 now) (quiet : EachAre IsQuiet (states_of M now) last) (settled : AreSettled last) where
     abbrev stood : List CellState
     stood = broken.broken.stood
 

@@ -17,7 +17,7 @@ use Rattle.agent_cells.specs.Links.{Tail, Head, AreSameTails, AreSameHeads}
 use Rattle.agent_cells.specs.Settled.{EndsJoin}
 use Rattle.agent_cells.specs.State.{state_of, tails_in, heads_in, IsCell}
 use Rattle.agent_cells.proofs.CellLaws.{tails_peers, heads_peers}
-use Rattle.agent_workers.specs.Joined.{EachIs, EachBecomes, IsSameCell, IsJoined}
+use Rattle.agent_workers.specs.Joined.{EachIs, EachBecomes, IsSameCell, AreCellsJoined}
 use Rattle.agent_workers.specs.Settled.{StaysQuiet}
 use Rattle.agent_workers.proofs.CellLaws.{stays_none, stays_then}
 
@@ -68,7 +68,7 @@ module _ {X : Type 0} {F : X → Type 0} (M : DynBox X Global F → View) where
       let a = there before i (omega (arith, in_after, size)) in
       (a.0, a.1, e.each i a.0 b a.1 is)
 
-  pub joined_still : (nodes : ℕ) (before after : List (Cell X F)) → IsJoined M nodes before → EachBecomes IsSameCell before after → IsJoined M nodes after
+  pub joined_still : (nodes : ℕ) (before after : List (Cell X F)) → AreCellsJoined M nodes before → EachBecomes IsSameCell before after → AreCellsJoined M nodes after
   joined_still nodes before after j e =
       let size : length after ≡ length before = e.size in
       record {

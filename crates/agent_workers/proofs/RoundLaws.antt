@@ -16,7 +16,7 @@ use Rattle.worker_laws.proofs.VisitLaws.{totals_add}
 use Rattle.agent_cells.specs.declared.cell.Cell.{Cell}
 use Rattle.agent_cells.specs.declared.fault.VisitFault.{VisitFault}
 use Rattle.agent_cells.specs.State.{state_of, fault_in, IsCell}
-use Rattle.agent_workers.specs.Joined.{states_of, EachIs, EachBecomes, HasBegun, IsSameCell, IsJoined}
+use Rattle.agent_workers.specs.Joined.{states_of, EachIs, EachBecomes, HasBegun, IsSameCell, AreCellsJoined}
 use Rattle.agent_workers.specs.Settled.{StaysQuiet, HaveSettled}
 use Rattle.agent_workers.specs.Turns.{sprint_limit, IsReady, StaysReady, HasSprinted, HavePlayed}
 use Rattle.agent_workers.proofs.ListLaws.{each_are}
@@ -26,7 +26,7 @@ use Rattle.agent_workers.proofs.SettleLaws.{settling}
 
 module _ {X : Type 0} {F : X → Type 0} (M : DynBox X Global F → View) where
   -- the cells of joined cells have few peers
-  pub ready_from : (nodes : ℕ) (cells : List (Cell X F)) → IsJoined M nodes cells → EachIs (HasBegun M) cells → EachIs (IsReady M) cells
+  pub ready_from : (nodes : ℕ) (cells : List (Cell X F)) → AreCellsJoined M nodes cells → EachIs (HasBegun M) cells → EachIs (IsReady M) cells
   ready_from nodes cells j begun = record {
     each = λ i c is. record {
       begun = begun.each i c is;
@@ -67,10 +67,10 @@ module _ {X : Type 0} {F : X → Type 0} (M : DynBox X Global F → View) where
   }
 
   -- settled cells are ready
-  pub ready_mid : (nodes : ℕ) (before mid : List (Cell X F)) → IsJoined M nodes before → EachIs (HasBegun M) before → EachBecomes (StaysQuiet M) before mid → EachIs (IsReady M) mid
+  pub ready_mid : (nodes : ℕ) (before mid : List (Cell X F)) → AreCellsJoined M nodes before → EachIs (HasBegun M) before → EachBecomes (StaysQuiet M) before mid → EachIs (IsReady M) mid
   ready_mid nodes before mid j begun q = ready_from nodes mid (joined_still M nodes before mid j (quiet_same M before mid q)) (begun_still before mid begun q)
 
-  pub joined_after : (nodes : ℕ) (before mid after : List (Cell X F)) → IsJoined M nodes before → EachBecomes (StaysQuiet M) before mid → EachBecomes (StaysReady M) mid after → IsJoined M nodes after
+  pub joined_after : (nodes : ℕ) (before mid after : List (Cell X F)) → AreCellsJoined M nodes before → EachBecomes (StaysQuiet M) before mid → EachBecomes (StaysReady M) mid after → AreCellsJoined M nodes after
   joined_after nodes before mid after j q r = joined_still M nodes mid after (joined_still M nodes before mid j (quiet_same M before mid q)) (same_from mid after r)
 
   -- what a round has done, if it did not fail

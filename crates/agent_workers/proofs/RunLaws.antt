@@ -21,7 +21,7 @@ use Rattle.worker_laws.proofs.PlayedLaws.{played_cells_make_runs}
 use Rattle.agent_cells.specs.declared.cell.Cell.{Cell}
 use Rattle.agent_cells.specs.declared.fault.VisitFault.TheVariants.{StampEnd}
 use Rattle.agent_cells.specs.State.{state_of, begun_in, fault_in, IsCell}
-use Rattle.agent_workers.specs.Joined.{states_of, EachIs, EachBecomes, HasBegun, IsSameCell, IsJoined}
+use Rattle.agent_workers.specs.Joined.{states_of, EachIs, EachBecomes, HasBegun, IsSameCell, AreCellsJoined}
 use Rattle.agent_workers.specs.Settled.{HaveSettled}
 use Rattle.dcop_base.specs.Limits.{budget_limit}
 use Rattle.agent_workers.specs.Turns.{SomeFailed}
@@ -158,7 +158,7 @@ module _ {X : Type 0} {F : X → Type 0} (M : DynBox X Global F → View) where
   start_all k before now le s = record { size = s.same.size; each = λ i a b e f. let lt = slice_get_within before i a e in s.started i a b e f (omega (arith, lt, le)) }
 
   -- what has started, as plain values
-  pub starts : (before after : List (Cell X F)) → IsJoined M 1 before → EachBecomes (HasStarted M) before after → AreStarted (views_of M before) (states_of M after)
+  pub starts : (before after : List (Cell X F)) → AreCellsJoined M 1 before → EachBecomes (HasStarted M) before after → AreStarted (views_of M before) (states_of M after)
   starts before after j s =
       let same : EachBecomes IsSameCell before after = record { size = s.size; each = λ i a b e f. (s.each i a b e f).same } in
       let joined = joined_still M 1 before after j same in
@@ -172,10 +172,10 @@ module _ {X : Type 0} {F : X → Type 0} (M : DynBox X Global F → View) where
   pub begun_all : (before after : List (Cell X F)) → EachBecomes (HasStarted M) before after → EachIs (HasBegun M) after
   begun_all before after s = record { each = λ i b is. (stood M (HasStarted M) before after s i b is).2.begun }
 
-  pub joined_all : (before after : List (Cell X F)) → IsJoined M 1 before → EachBecomes (HasStarted M) before after → IsJoined M 1 after
+  pub joined_all : (before after : List (Cell X F)) → AreCellsJoined M 1 before → EachBecomes (HasStarted M) before after → AreCellsJoined M 1 after
   joined_all before after j s = joined_still M 1 before after j (record { size = s.size; each = λ i a b e f. (s.each i a b e f).same })
 
-  pub none_yet : (before after : List (Cell X F)) → IsJoined M 1 before → EachBecomes (HasStarted M) before after → total (states_of M after) ≡ 0
+  pub none_yet : (before after : List (Cell X F)) → AreCellsJoined M 1 before → EachBecomes (HasStarted M) before after → total (states_of M after) ≡ 0
   none_yet before after j s = none_taken (views_of M before) (states_of M after) (starts before after j s).started
 
   -- a round with one node
@@ -183,7 +183,7 @@ module _ {X : Type 0} {F : X → Type 0} (M : DynBox X Global F → View) where
   whole_round before after r = one_node_is_all.round (states_of M before) (states_of M after) (subst (λ (n : ℕ). IsPartRound (home 1 n) (states_of M before) (states_of M after)) (sym (length-map before (state_of M))) r)
 
   -- the run of cells that were started, played out and settled
-  pub whole_run : (budget : ℕ) (before begun now last : List (Cell X F)) (answer : RunEnd) → IsJoined M 1 before → EachBecomes (HasStarted M) before begun
+  pub whole_run : (budget : ℕ) (before begun now last : List (Cell X F)) (answer : RunEnd) → AreCellsJoined M 1 before → EachBecomes (HasStarted M) before begun
       → ArePlayedOut budget (states_of M begun) (states_of M now) answer → HaveSettled M (home 1 (length now)) (length now) now last → MakesARun budget (views_of M before) (states_of M last) answer
   whole_run budget before begun now last answer j s p settled =
       let made = settling M (home 1 (length now)) now last settled in
@@ -240,7 +240,7 @@ module _ {X : Type 0} {F : X → Type 0} (M : DynBox X Global F → View) where
       (rounds_push budget (states_of M started) (states_of M now) (states_of M next) s.played.rounds s.played.are (omega (arith, is, less)) (whole_round now next round))
       (due_push budget (states_of M started) (states_of M now) (states_of M next) s.played.rounds s.played.are s.played.such awake)
 
-  pub due_run : (budget : ℕ) (before begun now last : List (Cell X F)) (answer : RunEnd) → IsJoined M 1 before → EachBecomes (HasStarted M) before begun
+  pub due_run : (budget : ℕ) (before begun now last : List (Cell X F)) (answer : RunEnd) → AreCellsJoined M 1 before → EachBecomes (HasStarted M) before begun
       → ArePlayedOut budget (states_of M begun) (states_of M now) answer → HaveSettled M (home 1 (length now)) (length now) now last → AreDulyPlayed budget (views_of M before) (states_of M last)
   due_run budget before begun now last answer j s p settled =
       let made = settling M (home 1 (length now)) now last settled in
@@ -255,7 +255,7 @@ module _ {X : Type 0} {F : X → Type 0} (M : DynBox X Global F → View) where
       record { played = played_on budget n started now next p is less awake round; idle = idle_push budget (states_of M started) (states_of M now) (states_of M next) p.rounds p.are none }
 
   -- a run that answers Still
-  pub still_run : (budget : ℕ) (before begun now last : List (Cell X F)) (answer : RunEnd) → IsJoined M 1 before → EachBecomes (HasStarted M) before begun → ArePlayedOut budget (states_of M begun) (states_of M now) answer
+  pub still_run : (budget : ℕ) (before begun now last : List (Cell X F)) (answer : RunEnd) → AreCellsJoined M 1 before → EachBecomes (HasStarted M) before begun → ArePlayedOut budget (states_of M begun) (states_of M now) answer
       → AtStill answer (AreIdle budget (states_of M begun) (states_of M now)) → HaveSettled M (home 1 (length now)) (length now) now last → RestsAtStill budget (views_of M before) (states_of M last) answer
   still_run budget before begun now last (AllEnded n) j s p idle settled = record { rest = tt }
   still_run budget before begun now last (Spent n) j s p idle settled = record { rest = tt }
@@ -278,8 +278,8 @@ module _ {X : Type 0} {F : X → Type 0} (M : DynBox X Global F → View) where
   fine_still before after e fine = record { each = λ i b is. let a = stood M _ before after e i b is in a.2 (fine.each i a.0 a.1) }
 
   -- no run breaks off because stamps end
-  pub never_ends : (budget : ℕ) (before begun now last : List (Cell X F)) → budget ≤ budget_limit → IsJoined M 1 before → EachBecomes (HasStarted M) before begun → HaveBrokenOff M budget (states_of M begun) now
-      → IsJoined M 1 now → HaveSettled M (home 1 (length now)) (length now) now last → SomeFailed StampEnd now → ⊥
+  pub never_ends : (budget : ℕ) (before begun now last : List (Cell X F)) → budget ≤ budget_limit → AreCellsJoined M 1 before → EachBecomes (HasStarted M) before begun → HaveBrokenOff M budget (states_of M begun) now
+      → AreCellsJoined M 1 now → HaveSettled M (home 1 (length now)) (length now) now last → SomeFailed StampEnd now → ⊥
   never_ends budget before begun now last within j s broken joined settled failed =
       let made = settling M (home 1 (length now)) now last settled in
       let one = one_node_is_all.settling (states_of M now) (states_of M last) (subst (λ (n : ℕ). IsSettling (home 1 n) (states_of M now) (states_of M last)) (sym (length-map now (state_of M))) made) in

@@ -18,7 +18,7 @@ use Rattle.worker_laws.proofs.LaneLaws.{lane_none, has_from_contains}
 use Rattle.worker_laws.proofs.EachLaws.{there}
 use Rattle.agent_cells.specs.declared.cell.Cell.{Cell}
 use Rattle.agent_cells.specs.State.{state_of, IsCell}
-use Rattle.agent_workers.specs.Joined.{states_of, EachIs, EachBecomes, IsJoined}
+use Rattle.agent_workers.specs.Joined.{states_of, EachIs, EachBecomes, AreCellsJoined}
 use Rattle.agent_workers.specs.Settled.{CanSettle, StaysQuiet, HasSettled, HasSettledOne, HasSettledPlace, HasSettledTo, HaveSettled}
 use Rattle.agent_workers.proofs.ListLaws.{element_at, four, map_back, each_are, one_at}
 use Rattle.agent_workers.proofs.CellLaws.{settled_still, stays_none}
@@ -163,16 +163,16 @@ module _ {X : Type 0} {F : X → Type 0} (M : DynBox X Global F → View) where
     kept = h.kept;
   }
 
-  places_of : (nodes : ℕ) (cells : List (Cell X F)) → IsJoined M nodes cells → (k : ℕ) (c : Cell X F) → slice_get cells k ≡ Some c → c.me ≡ k
+  places_of : (nodes : ℕ) (cells : List (Cell X F)) → AreCellsJoined M nodes cells → (k : ℕ) (c : Cell X F) → slice_get cells k ≡ Some c → c.me ≡ k
   places_of nodes cells j k c e = (j.wired k c e).me
 
-  peer_below : (nodes : ℕ) (cells : List (Cell X F)) → IsJoined M nodes cells → (i p k : ℕ) (c : Cell X F) → slice_get cells i ≡ Some c → slice_get (peers (state_of M c).taken) p ≡ Some k → k < length cells
+  peer_below : (nodes : ℕ) (cells : List (Cell X F)) → AreCellsJoined M nodes cells → (i p k : ℕ) (c : Cell X F) → slice_get cells i ≡ Some c → slice_get (peers (state_of M c).taken) p ≡ Some k → k < length cells
   peer_below nodes cells j i p k c e f =
       let ns : List ℕ = peers (state_of M c).taken in
       subst (λ n. n < length cells) (get_or_from_slice_get ns p k k f) ((j.wired i c e).below p k (slice_get_within ns p k f))
 
   -- one place more
-  pub place_more : (nodes : ℕ) (i p : ℕ) (a b c : List (Cell X F)) → IsJoined M nodes b → i < length b → HasSettledTo M (home nodes (length a)) i p a b → HasSettledPlace M (home nodes (length b)) i p b c → HasSettledTo M (home nodes (length a)) i (p + 1) a c
+  pub place_more : (nodes : ℕ) (i p : ℕ) (a b c : List (Cell X F)) → AreCellsJoined M nodes b → i < length b → HasSettledTo M (home nodes (length a)) i p a b → HasSettledPlace M (home nodes (length b)) i p b c → HasSettledTo M (home nodes (length a)) i (p + 1) a c
   place_more nodes i p a b c joined in_i h old_s =
       let s : HasSettledPlace M (home nodes (length a)) i p b c = subst (λ (n : ℕ). HasSettledPlace M (home nodes n) i p b c) h.quiet.size old_s in
       let x = there b i in_i in
@@ -204,7 +204,7 @@ module _ {X : Type 0} {F : X → Type 0} (M : DynBox X Global F → View) where
   }
 
   -- one agent more
-  pub agent_more : (nodes i : ℕ) (a b c : List (Cell X F)) → IsJoined M nodes b → HaveSettled M (home nodes (length a)) i a b → ((count : ℕ) → HasSettledTo M (home nodes (length b)) i count b c) → HaveSettled M (home nodes (length a)) (i + 1) a c
+  pub agent_more : (nodes i : ℕ) (a b c : List (Cell X F)) → AreCellsJoined M nodes b → HaveSettled M (home nodes (length a)) i a b → ((count : ℕ) → HasSettledTo M (home nodes (length b)) i count b c) → HaveSettled M (home nodes (length a)) (i + 1) a c
   agent_more nodes i a b c joined h old_s =
       let s : (count : ℕ) → HasSettledTo M (home nodes (length a)) i count b c = λ count. subst (λ (n : ℕ). HasSettledTo M (home nodes n) i count b c) h.quiet.size (old_s count) in
       let one = (s 0).quiet in
@@ -259,7 +259,7 @@ module _ {X : Type 0} {F : X → Type 0} (M : DynBox X Global F → View) where
   }
 
   -- the peer at a place of an agent's list
-  module _ (nodes i p k : ℕ) (cells : List (Cell X F)) (c : Cell X F) (joined : IsJoined M nodes cells) (at : slice_get cells i ≡ Some c)
+  module _ (nodes i p k : ℕ) (cells : List (Cell X F)) (c : Cell X F) (joined : AreCellsJoined M nodes cells) (at : slice_get cells i ≡ Some c)
       (lt : p < length (peers (state_of M c).taken)) (is : k ≡ slice_index_or (peers (state_of M c).taken) p k) where
     peer_is : slice_get (peers (state_of M c).taken) p ≡ Some k
     peer_is = element_at (peers (state_of M c).taken) p k lt is

@@ -17,7 +17,7 @@ use Rattle.worker_laws.specs.CellRounds.{total}
 use Rattle.worker_laws.specs.OneNode.{IsSettling}
 use Rattle.agent_workers.specs.Joined.{states_of}
 use Rattle.agent_workers.specs.Turns.{HasTurned, AreTurning}
-use Rattle.agent_workers.specs.Watched.{IsUnmarked, AreUnmarked, all_due, MarksReceivers, MarksWaiting, PassesUnmarked, PassesNone, AreTurns, IsPlayedInTurns, IsTurnRound}
+use Rattle.agent_workers.specs.Watched.{IsUnmarked, AreCellsUnmarked, all_due, MarksReceivers, MarksWaiting, PassesUnmarked, PassesNone, AreTurns, IsPlayedInTurns, IsTurnRound}
 use Rattle.agent_workers.proofs.PlayLaws.{set_back}
 
 -- two lists that agree from a place on
@@ -88,7 +88,7 @@ module _ {X : Type 0} {F : X → Type 0} (M : DynBox X Global F → View) where
     passed = record { each = λ i a b e f lt. absurd (omega (arith, lt)) };
   }
 
-  pub passing_past : (old words : List ℕ) (k m : ℕ) (before now : List (Cell X F)) → k ≤ m → length now ≡ length before → AreUnmarked words k m
+  pub passing_past : (old words : List ℕ) (k m : ℕ) (before now : List (Cell X F)) → k ≤ m → length now ≡ length before → AreCellsUnmarked words k m
       → ((j : ℕ) (a b : Cell X F) → slice_get before j ≡ Some a → slice_get now j ≡ Some b → k ≤ j → b ≡ a) → IsPassing old words k before now → IsPassing old words m before now
   passing_past old words k m before now le size none rest h = record {
     ahead = λ i ge lt un. h.ahead i (omega (arith, le, ge)) lt un;

@@ -6,7 +6,7 @@ use Rattle.std.proofs.lemmas.List.{get_or_past}
 use Rattle.std.proofs.lemmas.Nat.{shr-shr, shr_le}
 use Rattle.std.proofs.lemmas.Nat.Bits.{bit_at-zero, bit_at_above, bit_at-trailing_zeros, bit_at_set_same, bit_at_set_other, bit_at_clear_other}
 use Rattle.dcop_base.specs.Limits.{variable_limit}
-use Rattle.agent_workers.specs.Watched.{IsUnmarked, AreUnmarked}
+use Rattle.agent_workers.specs.Watched.{IsUnmarked, AreCellsUnmarked}
 
 -- a bit of a number that is shifted to the right
 shifted : (n j i : ℕ) → bit_at (n / 2 ^ j) i ≡ bit_at n (j + i)
@@ -40,20 +40,20 @@ marked_here words place within un =
     omega (arith, is, one, un)
 
 -- there is no mark after the last word
-pub past_words : (words : List ℕ) (from : ℕ) → length words ≤ from / 64 → (to : ℕ) → AreUnmarked words from to
+pub past_words : (words : List ℕ) (from : ℕ) → length words ≤ from / 64 → (to : ℕ) → AreCellsUnmarked words from to
 past_words words from past to = λ k low high. ap (λ n. bit_at n (k % 64)) (get_or_past words (k / 64) 0 (omega (arith, past, low))) ∙ bit_at-zero (k % 64)
 
-pub past_word : (words : List ℕ) (word : ℕ) → length words ≤ 16 → 16 ≤ word → (to : ℕ) → AreUnmarked words (word * 64) to
+pub past_word : (words : List ℕ) (word : ℕ) → length words ≤ 16 → 16 ≤ word → (to : ℕ) → AreCellsUnmarked words (word * 64) to
 past_word words word few past to = λ k low high. ap (λ n. bit_at n (k % 64)) (get_or_past words (k / 64) 0 (omega (arith, few, past, low))) ∙ bit_at-zero (k % 64)
 
-pub then_unmarked : (words : List ℕ) (a b c : ℕ) → AreUnmarked words a b → AreUnmarked words b c → AreUnmarked words a c
+pub then_unmarked : (words : List ℕ) (a b c : ℕ) → AreCellsUnmarked words a b → AreCellsUnmarked words b c → AreCellsUnmarked words a c
 then_unmarked words a b c p q = λ k low high. elim (cases_lt k b) [
   | inl below ↦ p k low below
   | inr above ↦ q k above high
 ]
 
 -- the marks of the word of a place, from the place on
-pub rest_unmarked : (words : List ℕ) (from : ℕ) → slice_index words (from / 64) / 2 ^ (from % 64) ≡ 0 → AreUnmarked words from ((from / 64 + 1) * 64)
+pub rest_unmarked : (words : List ℕ) (from : ℕ) → slice_index words (from / 64) / 2 ^ (from % 64) ≡ 0 → AreCellsUnmarked words from ((from / 64 + 1) * 64)
 rest_unmarked words from none = λ k low high.
     let word : k / 64 ≡ from / 64 = omega (arith, low, high) in
     let bit : from % 64 + (k % 64 - from % 64) ≡ k % 64 = omega (arith, low, word) in
@@ -61,7 +61,7 @@ rest_unmarked words from none = λ k low high.
     ap (λ n. bit_at (slice_index words n) (k % 64)) word ∙ ap (λ n. bit_at w n) (sym bit) ∙ sym (shifted w (from % 64) (k % 64 - from % 64)) ∙ ap (λ n. bit_at n (k % 64 - from % 64)) none ∙ bit_at-zero (k % 64 - from % 64)
 
 pub first_of_rest : (words : List ℕ) (from : ℕ) → slice_index words (from / 64) < 2 ^ 64 → 0 < slice_index words (from / 64) / 2 ^ (from % 64)
-    → AreUnmarked words from (from + trailing_zeros w64 (slice_index words (from / 64) / 2 ^ (from % 64)))
+    → AreCellsUnmarked words from (from + trailing_zeros w64 (slice_index words (from / 64) / 2 ^ (from % 64)))
 first_of_rest words from fits some = λ k low high.
     let w : ℕ = slice_index words (from / 64) in
     let ahead : ℕ = w / 2 ^ (from % 64) in
@@ -78,12 +78,12 @@ first_of_rest words from fits some = λ k low high.
     ap (λ n. bit_at (slice_index words n) (k % 64)) word ∙ ap (λ n. bit_at w n) (sym bit) ∙ sym (shifted w (from % 64) (k - from)) ∙ first.2 (k - from) before
 
 -- the marks of a word
-pub word_unmarked : (words : List ℕ) (word : ℕ) → slice_index words word ≡ 0 → AreUnmarked words (word * 64) ((word + 1) * 64)
+pub word_unmarked : (words : List ℕ) (word : ℕ) → slice_index words word ≡ 0 → AreCellsUnmarked words (word * 64) ((word + 1) * 64)
 word_unmarked words word none = λ k low high.
     let at : k / 64 ≡ word = omega (arith, low, high) in
     ap (λ n. bit_at (slice_index words n) (k % 64)) at ∙ ap (λ n. bit_at n (k % 64)) none ∙ bit_at-zero (k % 64)
 
-pub first_of_word : (words : List ℕ) (word : ℕ) → slice_index words word < 2 ^ 64 → 0 < slice_index words word → AreUnmarked words (word * 64) (word * 64 + trailing_zeros w64 (slice_index words word))
+pub first_of_word : (words : List ℕ) (word : ℕ) → slice_index words word < 2 ^ 64 → 0 < slice_index words word → AreCellsUnmarked words (word * 64) (word * 64 + trailing_zeros w64 (slice_index words word))
 first_of_word words word fits some = λ k low high.
     let first = bit_at-trailing_zeros w64 (slice_index words word) some fits in
     let within = first.0 in

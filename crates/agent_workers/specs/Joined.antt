@@ -37,15 +37,15 @@ module _ {X : Type 0} {F : X → Type 0} where
     pub links : KeepsLinks before after
 
   -- if there is a link from one cell to another, its ends are in the two
-  abbrev pub AreJoined : Cell X F → Cell X F → Type 0
-  AreJoined from to = EndsJoin (tails_in from) to.me (heads_in to) from.me
+  abbrev pub HaveJoinedEnds : Cell X F → Cell X F → Type 0
+  HaveJoinedEnds from to = EndsJoin (tails_in from) to.me (heads_in to) from.me
 
   -- cells joined in `nodes` nodes: they are at most 1,000; cell i is that of agent i, and its peers
   -- are other agents, each with it as a peer; each link between two peers in one node has its ends
   -- in their cells
-  pub record IsJoined (meaning : DynBox X Global F → View) (nodes : ℕ) (cells : List (Cell X F)) : Type 0 where
+  pub record AreCellsJoined (meaning : DynBox X Global F → View) (nodes : ℕ) (cells : List (Cell X F)) : Type 0 where
     pub few : length cells ≤ variable_limit
     pub wired : (i : ℕ) (c : Cell X F) → slice_get cells i ≡ Some c → IsWired (length cells) i (state_of meaning c)
     pub others : (i : ℕ) (c : Cell X F) → slice_get cells i ≡ Some c → Contains (peers (state_of meaning c).taken) i → ⊥
     pub back : (i j : ℕ) (a b : Cell X F) → slice_get cells i ≡ Some a → slice_get cells j ≡ Some b → Contains (peers (state_of meaning a).taken) j → Contains (peers (state_of meaning b).taken) i
-    pub ends : (i j : ℕ) (a b : Cell X F) → slice_get cells i ≡ Some a → slice_get cells j ≡ Some b → home nodes (length cells) i ≡ home nodes (length cells) j → AreJoined a b
+    pub ends : (i j : ℕ) (a b : Cell X F) → slice_get cells i ≡ Some a → slice_get cells j ≡ Some b → home nodes (length cells) i ≡ home nodes (length cells) j → HaveJoinedEnds a b

@@ -39,7 +39,7 @@ module _ {F T : Type 0} (g : Shared F (MutBor (List T) × Unit {0}) (Result ℕ 
     pub left : after_call.now ≡ after
 
   -- a call takes at most as many messages as a round may take for each element
-  pub record TakesFew : Type 0 where
+  pub record TakesRoundShare : Type 0 where
     pub each : (before : List T) (outcome : Result ℕ VisitFault) (after : List T) → IsCall before outcome after → IfOk outcome (λ n. n ≤ length before * sprint_limit)
 
   -- the joint result of calls of f, one with each part of the list

@@ -61,7 +61,7 @@ pub record AreDulyPlayed (budget : ℕ) (made : List View) (last : List CellStat
   pub settled : AreSettled last
 
 -- the last round took nothing, and the deliveries before it were below the budget
-pub record IsIdle (budget : ℕ) (started now : List CellState) : Type 0 where
+pub record IsIdleRound (budget : ℕ) (started now : List CellState) : Type 0 where
   pub before : List CellState
   pub played : ArePlayed budget started before
   pub less : total before < budget
@@ -72,7 +72,7 @@ pub record IsIdle (budget : ℕ) (started now : List CellState) : Type 0 where
 abbrev pub HasStopped : ℕ → List CellState → List CellState → RunEnd → Type 0
 HasStopped budget started now (AllEnded n) = (n ≡ total now) × (all_ended now ≡ true)
 HasStopped budget started now (Spent n) = (n ≡ total now) × (all_ended now ≡ false) × (budget ≤ total now)
-HasStopped budget started now (Still n) = (n ≡ total now) × (all_ended now ≡ false) × IsIdle budget started now
+HasStopped budget started now (Still n) = (n ≡ total now) × (all_ended now ≡ false) × IsIdleRound budget started now
 
 -- cells were played in due rounds under a budget, and playing has ended with this answer
 pub record ArePlayedOut (budget : ℕ) (started now : List CellState) (answer : RunEnd) : Type 0 where

@@ -10,7 +10,7 @@ use Rattle.worker_laws.specs.OneNode.{home}
 use Rattle.agent_cells.specs.declared.cell.Cell.{Cell}
 use Rattle.dcop_base.specs.Table.{has}
 use Rattle.agent_cells.specs.State.{state_of, begun_in, fault_in, IsCell, KeepsLinks}
-use Rattle.agent_workers.specs.Joined.{EachBecomes, AreJoined}
+use Rattle.agent_workers.specs.Joined.{EachBecomes, HaveJoinedEnds}
 
 -- the list has the node of each agent at its place, for this many nodes and agents
 pub record AreHomes (nodes agents : ℕ) (homes : List ℕ) : Type 0 where
@@ -22,7 +22,7 @@ module _ {X : Type 0} {F : X → Type 0} where
   pub record CanSettle (meaning : DynBox X Global F → View) (from to : Cell X F) : Type 0 where
     pub from_cell : IsCell meaning from
     pub to_cell : IsCell meaning to
-    pub joined : AreJoined from to
+    pub joined : HaveJoinedEnds from to
     pub alike : has (peers (state_of meaning from).sent) to.me ≡ has (peers (state_of meaning to).taken) from.me
 
   -- nothing of a cell has changed except what it knows of its links

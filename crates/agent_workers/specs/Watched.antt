@@ -20,8 +20,8 @@ abbrev pub IsUnmarked : List ℕ → ℕ → Type 0
 IsUnmarked words place = bit_at (slice_index words (place / 64)) (place % 64) ≡ 0
 
 -- no cell from place `from` up to, but not including, place `to` is marked
-abbrev pub AreUnmarked : List ℕ → ℕ → ℕ → Type 0
-AreUnmarked words from to = (k : ℕ) → from ≤ k → k < to → IsUnmarked words k
+abbrev pub AreCellsUnmarked : List ℕ → ℕ → ℕ → Type 0
+AreCellsUnmarked words from to = (k : ℕ) → from ≤ k → k < to → IsUnmarked words k
 
 -- the marks before and after the cell at a place had its turn, with what it had sent before and
 -- after: no mark but its own is taken away, and each agent to which it sent something is marked

@@ -4,7 +4,7 @@ ghost use Rattle.std.specs.Prelude.{◌≡◌, ◌≤◌, ◌<◌, ◌+◌, ◌*
 ghost use Rattle.std.specs.Thread.{IsSync, IsSend};
 ghost use Rattle.dcop_base.specs.Limits.{count_limit};
 ghost use Rattle.agent_workers.specs.Turns.{sprint_limit};
-ghost use Rattle.agent_workers.specs.Parts.{both_of, AcceptsParts, IsCall, TakesFew, IsPlayedByParts};
+ghost use Rattle.agent_workers.specs.Parts.{both_of, AcceptsParts, IsCall, TakesRoundShare, IsPlayedByParts};
 
 use agent_cells::VisitFault;
 use std::marker::{Send, Sync};
@@ -21,7 +21,7 @@ pub(crate) fn play_parts<
 >(rt: &R, play: &F, size: usize, busy: usize, all: &mut [T]) -> Result<u64, VisitFault>
     requires size { 0 < size }
     requires accepts { AcceptsParts F.Fn play.now all.old }
-    requires few { TakesFew F.Fn play.now }
+    requires few { TakesRoundShare F.Fn play.now }
     requires within { length all.old * sprint_limit ≤ count_limit }
     ensures parts { IsPlayedByParts F.Fn play.now size all.old result all.new }
     ensures whole { length all.old ≤ size → IsCall F.Fn play.now all.old result all.new }
@@ -53,7 +53,7 @@ fn play_beside<R: Threads + Sync, T: Send, F: Fn(&mut [T]) -> Result<u64, VisitF
     requires part { length part.old ≡ size }
     requires others { 0 < length others.old }
     requires accepts { AcceptsParts F.Fn play.now (part.old ++ others.old) }
-    requires few { TakesFew F.Fn play.now }
+    requires few { TakesRoundShare F.Fn play.now }
     requires within { (length part.old + length others.old) * sprint_limit ≤ count_limit }
     ensures parts { IsPlayedByParts F.Fn play.now size (part.old ++ others.old) result (part.new ++ others.new) }
     ensures few { IfOk result (λ n. n ≤ (length part.old + length others.old) * sprint_limit) }
@@ -63,7 +63,7 @@ fn play_beside<R: Threads + Sync, T: Send, F: Fn(&mut [T]) -> Result<u64, VisitF
         ensures { IsCall F.Fn play.entry.now part.entry.now result part.exit.now }
     { play_one(play, part) };
     let mut rest = || -> Result<u64, VisitFault>
-        requires { IsSync R.row × IsSync F.row × IsSend T.row × (0 < size) × AcceptsParts F.Fn play.now others.now × TakesFew F.Fn play.now × (length others.now * sprint_limit ≤ count_limit) }
+        requires { IsSync R.row × IsSync F.row × IsSend T.row × (0 < size) × AcceptsParts F.Fn play.now others.now × TakesRoundShare F.Fn play.now × (length others.now * sprint_limit ≤ count_limit) }
         ensures parts { IsPlayedByParts F.Fn play.entry.now size others.entry.now result others.exit.now }
         ensures few { IfOk result (λ n. n ≤ length others.entry.now * sprint_limit) }
     { play_parts(rt, play, size, busy, others) };

@@ -6,7 +6,7 @@ ghost use Rattle.worker_laws.specs.OneNode.{home, IsPartRound};
 ghost use Rattle.worker_laws.specs.StampCounts.{IsMoved};
 ghost use Rattle.agent_cells.specs.declared.fault.VisitFault.TheVariants.{StampEnd as stamp_end};
 ghost use Rattle.agent_cells.specs.State.{fault_in};
-ghost use Rattle.agent_workers.specs.Joined.{states_of, EachIs, EachBecomes, HasBegun, IsSameCell, IsJoined};
+ghost use Rattle.agent_workers.specs.Joined.{states_of, EachIs, EachBecomes, HasBegun, IsSameCell, AreCellsJoined};
 ghost use Rattle.agent_workers.specs.Turns.{sprint_limit, SomeFailed};
 ghost use Rattle.agent_workers.specs.Watched.{IsTurnRound};
 ghost use Rattle.agent_workers.specs.Shared.{IsSharedRound};
@@ -47,9 +47,9 @@ pub fn round<R: Threads + Sync, G: Gate>(
     gate: &G,
 ) -> Result<u64, VisitFault>
     requires workers { 0 < workers }
-    requires joined { IsJoined (λ b. meaning (b.vtable, b.value)) nodes cells.old.items }
+    requires joined { AreCellsJoined (λ b. meaning (b.vtable, b.value)) nodes cells.old.items }
     requires begun { EachIs (λ c. HasBegun (λ b. meaning (b.vtable, b.value)) c) cells.old.items }
-    ensures joined { IsJoined (λ b. meaning (b.vtable, b.value)) nodes cells.new.items }
+    ensures joined { AreCellsJoined (λ b. meaning (b.vtable, b.value)) nodes cells.new.items }
     ensures begun { EachIs (λ c. HasBegun (λ b. meaning (b.vtable, b.value)) c) cells.new.items }
     ensures same { EachBecomes (λ a b. IsSameCell a b) cells.old.items cells.new.items }
     ensures round { OnOk result (IsPartRound (home nodes (length cells.old.items))
@@ -73,9 +73,9 @@ pub fn play_round<R: Threads + Sync, G: Gate>(
     gate: &G,
 ) -> Result<u64, VisitFault>
     requires workers { 0 < workers }
-    requires joined { IsJoined (λ b. meaning (b.vtable, b.value)) nodes cells.old }
+    requires joined { AreCellsJoined (λ b. meaning (b.vtable, b.value)) nodes cells.old }
     requires begun { EachIs (λ c. HasBegun (λ b. meaning (b.vtable, b.value)) c) cells.old }
-    ensures joined { IsJoined (λ b. meaning (b.vtable, b.value)) nodes cells.new }
+    ensures joined { AreCellsJoined (λ b. meaning (b.vtable, b.value)) nodes cells.new }
     ensures begun { EachIs (λ c. HasBegun (λ b. meaning (b.vtable, b.value)) c) cells.new }
     ensures same { EachBecomes (λ a b. IsSameCell a b) cells.old cells.new }
     ensures round { OnOk result (IsPartRound (home nodes (length cells.old))

@@ -8,7 +8,7 @@ ghost use Rattle.worker_laws.specs.CellRuns.{MakesARun};
 ghost use Rattle.worker_laws.specs.CellRounds.{total};
 ghost use Rattle.agent_cells.specs.declared.fault.VisitFault.TheVariants.{StampEnd as stamp_end};
 ghost use Rattle.agent_cells.specs.State.{state_of, begun_in, fault_in, IsCell};
-ghost use Rattle.agent_workers.specs.Joined.{states_of, EachIs, EachBecomes, HasBegun, IsSameCell, IsJoined};
+ghost use Rattle.agent_workers.specs.Joined.{states_of, EachIs, EachBecomes, HasBegun, IsSameCell, AreCellsJoined};
 ghost use Rattle.agent_workers.specs.Turns.{SomeFailed};
 ghost use Rattle.agent_workers.specs.Broken.{HaveBrokenOff};
 ghost use Rattle.agent_workers.specs.Shared.{ArePlayedShared, HaveRunShared};
@@ -43,7 +43,7 @@ pub fn run<R: Threads + Sync, G: Gate>(
 ) -> Result<RunEnd, NoMemory>
     requires workers { 0 < workers }
     requires budget { budget ≤ budget_limit }
-    requires joined { IsJoined (λ b. meaning (b.vtable, b.value)) 1 cells.old.items }
+    requires joined { AreCellsJoined (λ b. meaning (b.vtable, b.value)) 1 cells.old.items }
     requires sound { EachIs (λ c. IsCell (λ b. meaning (b.vtable, b.value)) c) cells.old.items }
     requires fresh { EachIs (λ c. begun_in c ≡ false) cells.old.items }
     ensures run { IfOk result (λ end. MakesARun budget (views_of (λ b. meaning (b.vtable, b.value)) cells.old.items)
@@ -66,7 +66,7 @@ fn run_all<R: Threads + Sync, G: Gate>(
 ) -> Result<RunEnd, NoMemory>
     requires workers { 0 < workers }
     requires budget { budget ≤ budget_limit }
-    requires joined { IsJoined (λ b. meaning (b.vtable, b.value)) 1 cells.old }
+    requires joined { AreCellsJoined (λ b. meaning (b.vtable, b.value)) 1 cells.old }
     requires sound { EachIs (λ c. IsCell (λ b. meaning (b.vtable, b.value)) c) cells.old }
     requires fresh { EachIs (λ c. begun_in c ≡ false) cells.old }
     ensures run { IfOk result (λ end. MakesARun budget (views_of (λ b. meaning (b.vtable, b.value)) cells.old)
@@ -101,11 +101,11 @@ fn play_out<R: Threads + Sync, G: Gate>(
 ) -> Result<RunEnd, VisitFault>
     requires workers { 0 < workers }
     requires budget { budget ≤ budget_limit }
-    requires joined { IsJoined (λ b. meaning (b.vtable, b.value)) 1 cells.old }
+    requires joined { AreCellsJoined (λ b. meaning (b.vtable, b.value)) 1 cells.old }
     requires begun { EachIs (λ c. HasBegun (λ b. meaning (b.vtable, b.value)) c) cells.old }
     requires fine { EachIs (λ c. fault_in c ≡ None) cells.old }
     requires none { total (states_of (λ b. meaning (b.vtable, b.value)) cells.old) ≡ 0 }
-    ensures joined { IsJoined (λ b. meaning (b.vtable, b.value)) 1 cells.new }
+    ensures joined { AreCellsJoined (λ b. meaning (b.vtable, b.value)) 1 cells.new }
     ensures begun { EachIs (λ c. HasBegun (λ b. meaning (b.vtable, b.value)) c) cells.new }
     ensures played { IfOk result (λ end. ArePlayedOut budget (states_of (λ b. meaning (b.vtable, b.value)) cells.old)
         (states_of (λ b. meaning (b.vtable, b.value)) cells.new) end) }

@@ -5,7 +5,7 @@ ghost use Rattle.dcop_base.specs.Limits.{variable_limit};
 ghost use Rattle.worker_laws.specs.Cells.{peers};
 ghost use Rattle.worker_laws.specs.OneNode.{home as home_of};
 ghost use Rattle.agent_cells.specs.State.{state_of, IsCell};
-ghost use Rattle.agent_workers.specs.Joined.{EachIs, IsJoined};
+ghost use Rattle.agent_workers.specs.Joined.{EachIs, AreCellsJoined};
 ghost use Rattle.agent_workers.specs.Settled.{AreHomes, CanSettle, HasSettled, HasSettledPlace, HasSettledTo, HaveSettled};
 
 use crate::tail_places::TailPlaces;
@@ -17,7 +17,7 @@ use dcop_base::MAX_VARIABLES;
 /// cells.
 pub fn settle_all(cells: &mut [Cell], nodes: u32, size: usize) -> Waiting
     requires size { 0 < size }
-    requires joined { IsJoined (λ b. meaning (b.vtable, b.value)) nodes cells.old }
+    requires joined { AreCellsJoined (λ b. meaning (b.vtable, b.value)) nodes cells.old }
     requires sound { EachIs (λ c. IsCell (λ b. meaning (b.vtable, b.value)) c) cells.old }
     ensures settled { HaveSettled (λ b. meaning (b.vtable, b.value)) (home_of nodes (length cells.old)) (length cells.old) cells.old cells.new }
 {
@@ -39,7 +39,7 @@ fn settle_links_to(
     homes: &[usize],
     tails: &mut TailPlaces,
 ) -> u64
-    requires joined { IsJoined (λ b. meaning (b.vtable, b.value)) nodes cells.old }
+    requires joined { AreCellsJoined (λ b. meaning (b.vtable, b.value)) nodes cells.old }
     requires sound { EachIs (λ c. IsCell (λ b. meaning (b.vtable, b.value)) c) cells.old }
     requires inside { to < length cells.old }
     requires homes { nodes ≢ 1 → AreHomes nodes (length cells.old) homes.now }
@@ -63,7 +63,7 @@ fn settle_place(
     homes: &[usize],
     tails: &mut TailPlaces,
 ) -> u64
-    requires joined { IsJoined (λ b. meaning (b.vtable, b.value)) nodes cells.old }
+    requires joined { AreCellsJoined (λ b. meaning (b.vtable, b.value)) nodes cells.old }
     requires sound { EachIs (λ c. IsCell (λ b. meaning (b.vtable, b.value)) c) cells.old }
     requires inside { to < length cells.old }
     requires homes { nodes ≢ 1 → AreHomes nodes (length cells.old) homes.now }

@@ -4,7 +4,7 @@ ghost use Rattle.std.specs.Prelude.{◌≡◌, ◌≢◌, ◌≤◌, ◌<◌, �
 ghost use Rattle.dcop_base.specs.Limits.{variable_limit};
 ghost use Rattle.worker_laws.specs.Cells.{peers};
 ghost use Rattle.agent_cells.specs.State.{state_of};
-ghost use Rattle.agent_workers.specs.Watched.{IsUnmarked, AreUnmarked};
+ghost use Rattle.agent_workers.specs.Watched.{IsUnmarked, AreCellsUnmarked};
 
 use agent_cells::Cell;
 use dcop_base::MAX_VARIABLES;
@@ -37,8 +37,8 @@ impl Watch {
     /// The first marked place that is not below `from`, among `cells` cells.
     pub(crate) fn next(&self, from: usize, cells: usize) -> Option<usize>
         ensures within { IfSome result (λ place. (from ≤ place) × (place < cells)) }
-        ensures passed { MatchOption result (AreUnmarked self.now.waits from cells)
-            (λ place. AreUnmarked self.now.waits from place) }
+        ensures passed { MatchOption result (AreCellsUnmarked self.now.waits from cells)
+            (λ place. AreCellsUnmarked self.now.waits from place) }
     {
         let Some(place) = self.first_from(from) else {
             return None;
@@ -52,8 +52,8 @@ impl Watch {
     /// The first marked place that is not below `from`.
     fn first_from(&self, from: usize) -> Option<usize>
         ensures within { IfSome result (λ place. from ≤ place) }
-        ensures passed { MatchOption result ((to : ℕ) → AreUnmarked self.now.waits from to)
-            (λ place. AreUnmarked self.now.waits from place) }
+        ensures passed { MatchOption result ((to : ℕ) → AreCellsUnmarked self.now.waits from to)
+            (λ place. AreCellsUnmarked self.now.waits from place) }
     {
         let own = from / BITS;
         if own >= WORDS {

@@ -15,7 +15,7 @@ use Rattle.solve_report.specs.declared.answer.Answer.TheVariants.{ProblemText, W
 use Rattle.answer_io.specs.declared.fault.InputFault.{InputFault}
 use Rattle.answer_io.specs.declared.fault.InputFault.TheVariants.{Text, Wcsp, NoMemory}
 use Rattle.answer_io.specs.declared.input.ReadInput.{ReadInput}
-use Rattle.answer_io.specs.InputTold.{Told, told_of}
+use Rattle.answer_io.specs.InputTold.{DeclaredInput, told_of}
 
 -- a fault of a problem text, as a fault of an input
 abbrev pub fault_of_text : TextFault → InputFault
@@ -29,17 +29,17 @@ fault_of_wcsp wcsps.NoMemory = NoMemory
 
 -- this fault refuses the input with the answer that the input is read as; running out of memory
 -- promises nothing
-abbrev pub IsRefused : {A : Type 0} → Result A Answer → InputFault → Type 0
-IsRefused outcome (Text line kind) = outcome ≡ Err (ProblemText line (number_of_text kind) (number_of_problem kind))
-IsRefused outcome (Wcsp line kind) = outcome ≡ Err (WcspText line (number_of_kind kind) (number_of_wcsp_problem kind))
-IsRefused outcome NoMemory = Unit {0}
+abbrev pub IsInputRefused : {A : Type 0} → Result A Answer → InputFault → Type 0
+IsInputRefused outcome (Text line kind) = outcome ≡ Err (ProblemText line (number_of_text kind) (number_of_problem kind))
+IsInputRefused outcome (Wcsp line kind) = outcome ≡ Err (WcspText line (number_of_kind kind) (number_of_wcsp_problem kind))
+IsInputRefused outcome NoMemory = Unit {0}
 
 -- reading a whole input gave this result
-abbrev pub IsInput : Result Told Answer → Result ReadInput InputFault → Type 0
+abbrev pub IsInput : Result DeclaredInput Answer → Result ReadInput InputFault → Type 0
 IsInput outcome (Ok read) = outcome ≡ Ok (told_of read.file read.bar)
-IsInput outcome (Err fault) = IsRefused outcome fault
+IsInput outcome (Err fault) = IsInputRefused outcome fault
 
 -- reading the problem that an input begins with gave this result
-abbrev pub IsFront : Result Parts Answer → Result ReadFile InputFault → Type 0
-IsFront outcome (Ok read) = outcome ≡ Ok (record { declared = declared_by read.file; used = read.used })
-IsFront outcome (Err fault) = IsRefused outcome fault
+abbrev pub IsInputFront : Result Parts Answer → Result ReadFile InputFault → Type 0
+IsInputFront outcome (Ok read) = outcome ≡ Ok (record { declared = declared_by read.file; used = read.used })
+IsInputFront outcome (Err fault) = IsInputRefused outcome fault

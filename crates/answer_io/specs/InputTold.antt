@@ -14,12 +14,12 @@ use Rattle.solve_report.specs.declared.answer.Answer.{Answer}
 use Rattle.solve_report.specs.declared.answer.Answer.TheVariants.{WcspText}
 
 -- a problem as read: what is declared, and the bar of a WCSP text
-pub record Told : Type 0 where
+pub record DeclaredInput : Type 0 where
   pub declared : Declared
   pub bar : Option ℕ
 
 -- what was read if it is this file with this bar
-abbrev pub told_of : TextFile → Option ℕ → Told
+abbrev pub told_of : TextFile → Option ℕ → DeclaredInput
 told_of file bar = record { declared = declared_by file; bar = bar }
 
 -- what a network declares: its sizes and raised tables, variables named by their numbers, version 2
@@ -35,7 +35,7 @@ declared_of w = record {
 }
 
 -- what was read if it is this network
-abbrev pub told_by : Network → Told
+abbrev pub told_by : Network → DeclaredInput
 told_by w = record { declared = declared_of w; bar = Some (bar w) }
 
 -- the answer to a WCSP text whose first fault is this

@@ -14,10 +14,10 @@ use Rattle.solve_report.specs.declared.answer.Answer.{Answer}
 use Rattle.solve_report.specs.declared.answer.Answer.TheVariants.{WcspText}
 use Rattle.answer_io.specs.Showing.{refused_by}
 use Rattle.answer_io.specs.Whole.{whole_read}
-use Rattle.answer_io.specs.InputTold.{Told, told_by, wcsp_refused_by}
+use Rattle.answer_io.specs.InputTold.{DeclaredInput, told_by, wcsp_refused_by}
 
 -- what a whole input is read as, given what its problem text is read as
-abbrev pub own_input : Result Declared Fault → Result Told Answer
+abbrev pub own_input : Result Declared Fault → Result DeclaredInput Answer
 own_input (Ok declared) = Ok (record { declared = declared; bar = None })
 own_input (Err fault) = Err (refused_by fault)
 
@@ -31,22 +31,22 @@ abbrev pub further_line : List ℕ → ℕ → Option ℕ
 further_line bytes used = line_of_first bytes (words (drop used bytes))
 
 -- what a network declares; or, if a further word is on this line, the answer that refuses the text
-abbrev pub unless_further : Network → Option ℕ → Result Told Answer
+abbrev pub unless_further : Network → Option ℕ → Result DeclaredInput Answer
 unless_further w None = Ok (told_by w)
 unless_further w (Some line) = Err (WcspText line (number_of_kind AfterEnd) (number_of_problem AfterEnd))
 
 -- what a whole input is read as, given what its WCSP text is read as up to the line of its last
 -- word
-abbrev pub wcsp_input : List ℕ → Result (Network × ℕ) WcspFault → Result Told Answer
+abbrev pub wcsp_input : List ℕ → Result (Network × ℕ) WcspFault → Result DeclaredInput Answer
 wcsp_input bytes (Ok read) = unless_further read.0 (further_line bytes read.1)
 wcsp_input bytes (Err fault) = Err (wcsp_refused_by bytes fault)
 
 -- the problem of a whole input in this format, or the answer that refuses it
-abbrev pub input_read : Format → List ℕ → Result Told Answer
+abbrev pub input_read : Format → List ℕ → Result DeclaredInput Answer
 input_read Own bytes = own_input (whole_read bytes)
 input_read Wcsp bytes = wcsp_input bytes (wcsp_read bytes)
 
 -- what an input declares, given what it is read as
-abbrev pub declared_in : Result Told Answer → Result Declared Answer
+abbrev pub declared_in : Result DeclaredInput Answer → Result Declared Answer
 declared_in (Ok told) = Ok told.declared
 declared_in (Err refusal) = Err refusal

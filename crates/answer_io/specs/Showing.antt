@@ -17,13 +17,13 @@ abbrev pub refused_by : Fault → Answer
 refused_by fault = answers.ProblemText fault.line (number_of_text fault.kind) (number_of_problem fault.kind)
 
 -- the whole text of an answer was written, the sink is finished, and the status is the answer's
-pub record IsShown (answer : Answer) (before after : SinkState) (status : Status) : Type 0 where
+pub record IsWholeShown (answer : Answer) (before after : SinkState) (status : Status) : Type 0 where
   pub text : Adds before.held (answer_text answer) after.held
   pub finished : after.finished ≡ true
   pub same : status ≡ status_of answer
 
 -- the sink failed after a prefix of the text of an answer
-pub record IsCut (answer : Answer) (before after : SinkState) (status : Status) : Type 0 where
+pub record IsCutShort (answer : Answer) (before after : SinkState) (status : Status) : Type 0 where
   pub prefix : AddsPrefix before.held (answer_text answer) after.held
   pub fault : status ≡ statuses.WriteFault
 
@@ -33,8 +33,8 @@ StaysUnless old new why = (new ≡ old) ⊎ ((old ≤ new) × Rose old new × wh
 
 -- an answer was shown by a sink that did not fail; or the sink failed and its count of faults rose;
 -- or memory ran out and no fault was counted
-abbrev pub Shows : Answer → SinkState → SinkState → ℕ → ℕ → Status → Type 0
-Shows answer sink sink' faults faults' status =
+abbrev pub ShowsAnswer : Answer → SinkState → SinkState → ℕ → ℕ → Status → Type 0
+ShowsAnswer answer sink sink' faults faults' status =
     ((status ≡ statuses.NoMemory) × (faults' ≡ faults))
-    ⊎ (IsShown answer sink sink' status × (faults' ≡ faults))
-    ⊎ (IsCut answer sink sink' status × (faults ≤ faults') × Rose faults faults')
+    ⊎ (IsWholeShown answer sink sink' status × (faults' ≡ faults))
+    ⊎ (IsCutShort answer sink sink' status × (faults ≤ faults') × Rose faults faults')

@@ -2,7 +2,7 @@
 
 ghost use Rattle.std.specs.Prelude.{◌≡◌, ◌≤◌, length, IfOk};
 ghost use Rattle.answer_io.specs.Fronts.{front_read, lines_in};
-ghost use Rattle.answer_io.specs.Gives.{IsFront};
+ghost use Rattle.answer_io.specs.Gives.{IsInputFront};
 
 use crate::fault::InputFault;
 use problem_text::{ReadFile, read_problem};
@@ -17,7 +17,7 @@ use wcsp_text::read_wcsp;
 ///
 /// The first fault of the text with its line; [`InputFault::NoMemory`] if memory runs out.
 pub fn read_front(alloc: Global, format: Format, bytes: &[u8]) -> Result<ReadFile, InputFault>
-    ensures read { IsFront (front_read format bytes.now) result }
+    ensures read { IsInputFront (front_read format bytes.now) result }
     ensures within { IfOk result (λ read. read.used ≤ length bytes.now) }
 {
     match format {
@@ -34,7 +34,7 @@ pub fn lines_in(text: &[u8]) -> u64
 }
 
 fn own_front(alloc: Global, bytes: &[u8]) -> Result<ReadFile, InputFault>
-    ensures read { IsFront (front_read Format.Dcop bytes.now) result }
+    ensures read { IsInputFront (front_read Format.Dcop bytes.now) result }
     ensures within { IfOk result (λ read. read.used ≤ length bytes.now) }
 {
     let read = read_problem(alloc, bytes)?;
@@ -42,7 +42,7 @@ fn own_front(alloc: Global, bytes: &[u8]) -> Result<ReadFile, InputFault>
 }
 
 fn wcsp_front(alloc: Global, bytes: &[u8]) -> Result<ReadFile, InputFault>
-    ensures read { IsFront (front_read Format.Wcsp bytes.now) result }
+    ensures read { IsInputFront (front_read Format.Wcsp bytes.now) result }
     ensures within { IfOk result (λ read. read.used ≤ length bytes.now) }
 {
     let read = read_wcsp(alloc, bytes)?;

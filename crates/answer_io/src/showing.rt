@@ -3,7 +3,7 @@
 ghost use Rattle.std.specs.Prelude.{◌≡◌};
 ghost use Rattle.solve_report.specs.AnswerText.{HasText};
 ghost use Rattle.answer_io.specs.Output.{sink_state};
-ghost use Rattle.answer_io.specs.Showing.{Shows};
+ghost use Rattle.answer_io.specs.Showing.{ShowsAnswer};
 
 use crate::status::Status;
 use crate::writing::write_all;
@@ -17,7 +17,7 @@ use std::alloc::Global;
 /// memory runs out, nothing is written.
 pub fn show<K: Sink>(alloc: Global, answer: &Answer, sink: &mut K) -> Status
     requires { HasText answer.now }
-    ensures shows { Shows answer.now
+    ensures shows { ShowsAnswer answer.now
         (sink_state (K.held sink.old) (K.finished sink.old))
         (sink_state (K.held sink.new) (K.finished sink.new))
         (K.faults sink.old) (K.faults sink.new) result }

@@ -10,11 +10,11 @@ use Rattle.shared_costs.specs.Values.{AreValues}
 use Rattle.shared_costs.specs.Shared.{AreSharedCosts}
 use Rattle.shared_costs.specs.Tables.{AreDepths, depths_cost}
 use Rattle.shared_costs.specs.declared.shared.SharedCosts.{SharedCosts}
-use Rattle.bucket_bounds.specs.Bounds.{AreBounds}
+use Rattle.bucket_bounds.specs.Bounds.{AreBucketBounds}
 use Rattle.bucket_bounds.specs.declared.bucket.Bucket.{Bucket}
 use Rattle.bound_search.specs.Estimate.{unscaled, IsPassedOver}
 use Rattle.bound_search.specs.Known.{IsBelow, IsKnown, IsNoWorse}
-use Rattle.bound_search.specs.Searched.{IsSearched, most_nodes}
+use Rattle.bound_search.specs.Searched.{IsBoundSearch, most_nodes}
 use Rattle.bound_search.specs.Grounds.{AreGrounds, scaled_cost}
 use Rattle.bound_search.specs.Descent.{IsRoom, IsStanding, far_of}
 use Rattle.bound_search.specs.First.{HasSearched}
@@ -28,7 +28,7 @@ use Rattle.bound_search.proofs.FirstLaws.{zeros_are_values}
 use Rattle.bound_search.proofs.ScaleLaws.{unscaled_low, scale_apart}
 use Rattle.bound_search.proofs.VisitLaws.{far_same}
 
-module _ (p : Dcop) (shared : SharedCosts) (buckets : List Bucket) (problem : IsProblem p) (costs : AreSharedCosts p shared) (bounds : AreBounds p.sizes shared.depths buckets) where
+module _ (p : Dcop) (shared : SharedCosts) (buckets : List Bucket) (problem : IsProblem p) (costs : AreSharedCosts p shared) (bounds : AreBucketBounds p.sizes shared.depths buckets) where
   -- at each values the buckets' tables sum to the scaled cost
   cost_is : (value : ℕ → ℕ) → AreValues p.sizes value → scaled_cost buckets value ≡ shared.scale * cost_with p.tables value
   cost_is value all = ap (λ (ds : List (List CostTable)). depths_cost ds value) bounds.tables ∙ costs.sums value all
@@ -36,7 +36,7 @@ module _ (p : Dcop) (shared : SharedCosts) (buckets : List Bucket) (problem : Is
   pub grounds_of : AreGrounds p.sizes shared.scale buckets
   grounds_of = record {
     depths = subst (λ (ds : List (List CostTable)). AreDepths p.sizes ds) (sym bounds.tables) costs.depths;
-    bounds = subst (λ (ds : List (List CostTable)). AreBounds p.sizes ds buckets) (sym bounds.tables) bounds;
+    bounds = subst (λ (ds : List (List CostTable)). AreBucketBounds p.sizes ds buckets) (sym bounds.tables) bounds;
     scaled = costs.scale.some;
     whole = λ value all. (cost_with p.tables value, cost_is value all);
     some = problem.some;
@@ -93,7 +93,7 @@ module _ (p : Dcop) (shared : SharedCosts) (buckets : List Bucket) (problem : Is
       → HasVisited p.sizes buckets (record { scale = shared.scale; error = error; budget = budget }) (far_of old) (far_of new)
       → before.best ≡ old.best → before.found ≡ old.found → before.nodes ≡ old.nodes → old.lower ≡ 18446744073709551615 → old.spent ≡ false
       → known.best ≡ new.best → known.found ≡ new.found → known.nodes ≡ new.nodes → known.values ≡ found → ended.lower ≡ unscaled shared.scale new.lower → ended.spent ≡ new.spent
-      → IsSearched p shared.scale buckets error budget before known ended
+      → IsBoundSearch p shared.scale buckets error budget before known ended
   searched_is error budget before known found old new ended standing searched visits old_best old_found old_nodes top unspent best is_found nodes values lower spent =
       let further = searched.further in
       let within = lower_within (record { scale = shared.scale; error = error; budget = budget }) old new searched in

@@ -13,7 +13,7 @@ use Rattle.bucket_bounds.specs.declared.bucket.Bucket.{Bucket}
 use Rattle.bound_search.specs.Estimate.{estimate}
 use Rattle.bound_search.specs.Grounds.{AreGrounds}
 use Rattle.bound_search.specs.Descent.{IsRoom, IsOpened, far_of}
-use Rattle.bound_search.specs.Visits.{Far, far, IsNode, PassesOver, LeavesOpen, IsTurn, AreTurns, VisitsEach, Visits, HasVisited}
+use Rattle.bound_search.specs.Visits.{Far, far, IsNode, PassesOver, LeavesOpen, IsValueTurn, AreValueTurns, VisitsEach, VisitsFrom, HasVisited}
 use Rattle.bound_search.specs.declared.progress.Progress.{Progress}
 use Rattle.bound_search.specs.declared.rules.Rules.{Rules}
 use Rattle.bound_search.proofs.EstimateLaws.{estimate_agrees, estimate_within, estimate_all, own_agrees, own_before, own_is, own_values}
@@ -87,8 +87,8 @@ left_next row a inside below =
 
 module _ (rules : Rules) (f : ℕ → ℕ) (Behind : ℕ → Far → Far → Type 0) where
   -- one turn more
-  turns_more : (order : List ℕ) (a : ℕ) (old mid new : Far) → AreTurns rules f Behind order old mid → IsTurn rules (f a) (Behind a) mid new → AreTurns rules f Behind (order ++ a ∷ []) old new
-  turns_more [] a old mid new before turn = (new, subst (λ (s : Far). IsTurn rules (f a) (Behind a) s new) before turn, refl)
+  turns_more : (order : List ℕ) (a : ℕ) (old mid new : Far) → AreValueTurns rules f Behind order old mid → IsValueTurn rules (f a) (Behind a) mid new → AreValueTurns rules f Behind (order ++ a ∷ []) old new
+  turns_more [] a old mid new before turn = (new, subst (λ (s : Far). IsValueTurn rules (f a) (Behind a) s new) before turn, refl)
   turns_more (b ∷ bs) a old mid new before turn = (before.0, before.1, turns_more bs a before.0 mid new before.2 turn)
 
   -- the values that are marked in a row have had their turns, and no other has a lower estimate
@@ -97,7 +97,7 @@ module _ (rules : Rules) (f : ℕ → ℕ) (Behind : ℕ → Far → Far → Typ
     pub each : IsPermutation (range_with_len 0 (length row)) (order ++ left_of row)
     pub ascending : IsNonDecreasingBy f order
     pub least : (a d : ℕ) → a < length row → get_or row a 0 < done → 0 < length order → f (get_or order (length order - 1) d) ≤ get_or row a 0
-    pub turns : AreTurns rules f Behind order old now
+    pub turns : AreValueTurns rules f Behind order old now
 
   turned_start : (row : List ℕ) (old : Far) → ((a : ℕ) → a < length row → get_or row a 0 < done) → HasTurned row old old
   turned_start row old h = record {
@@ -108,7 +108,7 @@ module _ (rules : Rules) (f : ℕ → ℕ) (Behind : ℕ → Far → Far → Typ
     turns = refl;
   }
 
-  turned_next : (row : List ℕ) (old now new : Far) (a : ℕ) → a < length row → get_or row a 0 < done → get_or row a 0 ≡ f a → ((k : ℕ) → k < length row → get_or row a 0 ≤ get_or row k 0) → IsTurn rules (f a) (Behind a) now new → HasTurned row old now → HasTurned (set row a done) old new
+  turned_next : (row : List ℕ) (old now new : Far) (a : ℕ) → a < length row → get_or row a 0 < done → get_or row a 0 ≡ f a → ((k : ℕ) → k < length row → get_or row a 0 ≤ get_or row k 0) → IsValueTurn rules (f a) (Behind a) now new → HasTurned row old now → HasTurned (set row a done) old new
   turned_next row old now new a inside below is low turn before =
       let order = before.order ++ a ∷ [] in
       let long : length order ≡ length before.order + 1 = length_push before.order a in
@@ -136,7 +136,7 @@ module _ (rules : Rules) (f : ℕ → ℕ) (Behind : ℕ → Far → Far → Typ
   }
 
   -- where the turns of all values that are left change nothing, all have them
-  turned_all : (n : ℕ) (row : List ℕ) (old now : Far) → 1 ≤ length row → to_visit row ≤ n → ((a : ℕ) → a < length row → get_or row a 0 < done → (get_or row a 0 ≡ f a) × IsTurn rules (f a) (Behind a) now now) → HasTurned row old now → VisitsEach rules f (length row) Behind old now
+  turned_all : (n : ℕ) (row : List ℕ) (old now : Far) → 1 ≤ length row → to_visit row ≤ n → ((a : ℕ) → a < length row → get_or row a 0 < done → (get_or row a 0 ≡ f a) × IsValueTurn rules (f a) (Behind a) now now) → HasTurned row old now → VisitsEach rules f (length row) Behind old now
   turned_all zero row old now some few left before =
       turned_end row old now (λ a inside. elim (cases_lt (get_or row a 0) done) [
         | inl below ↦ absurd (let next = to_visit_next row a inside below in omega (arith, next, few))
@@ -162,11 +162,11 @@ module _ (rules : Rules) (f : ℕ → ℕ) (Behind : ℕ → Far → Far → Typ
       ]
 
 -- turns by the same estimates
-turns_same : (rules : Rules) (f g : ℕ → ℕ) (Behind Under : ℕ → Far → Far → Type 0) → ((a : ℕ) → f a ≡ g a) → ((a : ℕ) (old new : Far) → Behind a old new → Under a old new) → (order : List ℕ) (old new : Far) → AreTurns rules f Behind order old new → AreTurns rules g Under order old new
+turns_same : (rules : Rules) (f g : ℕ → ℕ) (Behind Under : ℕ → Far → Far → Type 0) → ((a : ℕ) → f a ≡ g a) → ((a : ℕ) (old new : Far) → Behind a old new → Under a old new) → (order : List ℕ) (old new : Far) → AreValueTurns rules f Behind order old new → AreValueTurns rules g Under order old new
 turns_same rules f g Behind Under same under [] old new turns = turns
 turns_same rules f g Behind Under same under (a ∷ later) old new turns =
     let mid : Far = turns.0 in
-    let turn : IsTurn rules (g a) (Under a) old mid = elim turns.1 [
+    let turn : IsValueTurn rules (g a) (Under a) old mid = elim turns.1 [
       | inl node ↦ inl (subst (λ (n : ℕ). IsNode rules n old) (same a) node.0, under a (far old.best (old.nodes + 1) old.least old.left_open) mid node.1)
       | inr none ↦ inr (subst (λ (n : ℕ). PassesOver rules n old mid ⊎ LeavesOpen rules n old mid) (same a) none)
     ] in
@@ -179,11 +179,11 @@ far_same best best_too nodes nodes_too least least_too left left_too b n l o = r
 -- the values of a row at this depth that are marked have had their turns
 abbrev pub IsTurned : List ℕ → List Bucket → Rules → ℕ → (ℕ → ℕ) → List ℕ → Progress → Progress → Type 0
 IsTurned sizes buckets rules depth value row old now =
-    HasTurned rules (λ a. estimate (depth + 1) buckets (with_own depth a value)) (λ a before after. Visits (drop (depth + 1) sizes) buckets rules (depth + 1) (with_own depth a value) before after) row (far_of old) (far_of now)
+    HasTurned rules (λ a. estimate (depth + 1) buckets (with_own depth a value)) (λ a before after. VisitsFrom (drop (depth + 1) sizes) buckets rules (depth + 1) (with_own depth a value) before after) row (far_of old) (far_of now)
 
 module _ (sizes : List ℕ) (buckets : List Bucket) (rules : Rules) (grounds : AreGrounds sizes rules.scale buckets) where
   -- what is visited depends on the values of earlier variables alone
-  pub visits_agree : (left : List ℕ) (p : ℕ) (g h : ℕ → ℕ) (old new : Far) → p + length left ≡ length sizes → AgreeBelow p g h → Visits left buckets rules p h old new → Visits left buckets rules p g old new
+  pub visits_agree : (left : List ℕ) (p : ℕ) (g h : ℕ → ℕ) (old new : Far) → p + length left ≡ length sizes → AgreeBelow p g h → VisitsFrom left buckets rules p h old new → VisitsFrom left buckets rules p g old new
   visits_agree [] p g h old new all agree visits =
       let same = estimate_agrees sizes rules.scale buckets grounds (length sizes) g h (omega arith) (λ v lt. agree v (omega (arith, lt, all))) in
       let at_g = estimate_all sizes rules.scale buckets grounds g in
@@ -197,12 +197,12 @@ module _ (sizes : List ℕ) (buckets : List Bucket) (rules : Rules) (grounds : A
         each = visits.each;
         ascending = λ i j d le lt. (let rise = visits.ascending i j d le lt in omega (arith, same (get_or visits.order i d), same (get_or visits.order j d), rise));
         turns = turns_same rules (λ a. estimate (p + 1) buckets (with_own p a h)) (λ a. estimate (p + 1) buckets (with_own p a g))
-            (λ a before after. Visits ss buckets rules (p + 1) (with_own p a h) before after) (λ a before after. Visits ss buckets rules (p + 1) (with_own p a g) before after)
+            (λ a before after. VisitsFrom ss buckets rules (p + 1) (with_own p a h) before after) (λ a before after. VisitsFrom ss buckets rules (p + 1) (with_own p a g) before after)
             same (λ a before after below. visits_agree ss (p + 1) (with_own p a g) (with_own p a h) before after (omega (arith, all)) (own a) below) visits.order old new visits.turns;
       }
 
   -- behind all variables the assignment becomes the best
-  pub visits_taken : (f : ℕ) (value : ℕ → ℕ) (old new : Progress) → AreValues sizes value → f ≡ estimate (length sizes) buckets value → new.best ≡ Some (f / rules.scale) → new.nodes ≡ old.nodes → new.lower ≡ min old.lower f → new.spent ≡ old.spent → Visits [] buckets rules (length sizes) value (far_of old) (far_of new)
+  pub visits_taken : (f : ℕ) (value : ℕ → ℕ) (old new : Progress) → AreValues sizes value → f ≡ estimate (length sizes) buckets value → new.best ≡ Some (f / rules.scale) → new.nodes ≡ old.nodes → new.lower ≡ min old.lower f → new.spent ≡ old.spent → VisitsFrom [] buckets rules (length sizes) value (far_of old) (far_of new)
   visits_taken f value old new all is best nodes lower spent =
       let whole = grounds.whole value all in
       let cost : f ≡ rules.scale * whole.0 = is ∙ estimate_all sizes rules.scale buckets grounds value ∙ whole.1 in
@@ -213,22 +213,22 @@ module _ (sizes : List ℕ) (buckets : List Bucket) (rules : Rules) (grounds : A
   -- a row of estimates, before the first value has its turn
   pub visits_start : (depth : ℕ) (value : ℕ → ℕ) (row : List ℕ) (old : Progress) → depth < length sizes → AreValues sizes value → length row ≡ get_or sizes depth 0 → ((a : ℕ) → a < length row → get_or row a 0 ≡ estimate (depth + 1) buckets (with_own depth a value)) → IsTurned sizes buckets rules depth value row old old
   visits_start depth value row old lt all long each =
-      turned_start rules (λ a. estimate (depth + 1) buckets (with_own depth a value)) (λ a before after. Visits (drop (depth + 1) sizes) buckets rules (depth + 1) (with_own depth a value) before after) row (far_of old)
+      turned_start rules (λ a. estimate (depth + 1) buckets (with_own depth a value)) (λ a before after. VisitsFrom (drop (depth + 1) sizes) buckets rules (depth + 1) (with_own depth a value) before after) row (far_of old)
       (λ a h. (let most = estimate_within sizes rules.scale buckets grounds (depth + 1) (with_own depth a value) (omega (arith, lt)) (own_values sizes rules.scale buckets grounds depth a value all (omega (arith, h, long))) in
       omega (arith, each a h, most)))
 
   -- the least value that is left is a node, and what is below it was searched
   pub visits_next : (depth f : ℕ) (value behind : ℕ → ℕ) (row : List ℕ) (old now mid new : Progress) (a m : ℕ) → depth < length sizes → AreValues sizes value → IsRoom rules now.best now.room → a < length row → m ≡ get_or row a 0 → ((k : ℕ) → k < length row → m ≤ get_or row k 0)
       → IsVisiting sizes buckets rules depth f value row old now → IsOpened rules.budget m now mid true → AgreeBelow depth value behind → behind depth ≡ a
-      → Visits (drop (depth + 1) sizes) buckets rules (depth + 1) behind (far_of mid) (far_of new) → IsTurned sizes buckets rules depth value row old now → IsTurned sizes buckets rules depth value (set row a done) old new
+      → VisitsFrom (drop (depth + 1) sizes) buckets rules (depth + 1) behind (far_of mid) (far_of new) → IsTurned sizes buckets rules depth value row old now → IsTurned sizes buckets rules depth value (set row a done) old new
   visits_next depth f value behind row old now mid new a m lt all room inside at least visiting opened agree own visits turned =
       let below : get_or row a 0 < done = omega (arith, at, opened.0, room.counted) in
       let entry = visiting.entries a inside below in
       let within = estimate_within sizes rules.scale buckets grounds (depth + 1) (with_own depth a value) (omega (arith, lt)) (own_values sizes rules.scale buckets grounds depth a value all (omega (arith, inside, visiting.long))) in
       let node : IsNode rules (estimate (depth + 1) buckets (with_own depth a value)) (far_of now) = (room.below (estimate (depth + 1) buckets (with_own depth a value)) within (omega (arith, entry, at, opened.0)), opened.1) in
       let under = visits_agree (drop (depth + 1) sizes) (depth + 1) (with_own depth a value) behind (far_of mid) (far_of new) (let long = length-drop (depth + 1) sizes in omega (arith, lt, long)) (own_agrees depth a value behind agree own) visits in
-      let counted = subst (λ (q : Progress). Visits (drop (depth + 1) sizes) buckets rules (depth + 1) (with_own depth a value) (far_of q) (far_of new)) opened.2 under in
-      turned_next rules (λ a. estimate (depth + 1) buckets (with_own depth a value)) (λ a before after. Visits (drop (depth + 1) sizes) buckets rules (depth + 1) (with_own depth a value) before after) row
+      let counted = subst (λ (q : Progress). VisitsFrom (drop (depth + 1) sizes) buckets rules (depth + 1) (with_own depth a value) (far_of q) (far_of new)) opened.2 under in
+      turned_next rules (λ a. estimate (depth + 1) buckets (with_own depth a value)) (λ a before after. VisitsFrom (drop (depth + 1) sizes) buckets rules (depth + 1) (with_own depth a value) before after) row
       (far_of old) (far_of now) (far_of new) a inside below entry (λ k h. (let low = least k h in omega (arith, low, at))) (inl (node, counted)) turned
 
   -- what stops the visits is passed over or left open
@@ -258,10 +258,10 @@ module _ (sizes : List ℕ) (buckets : List Bucket) (rules : Rules) (grounds : A
 
   -- the least value that is left is no node, so none is
   pub visits_end : (depth f : ℕ) (value : ℕ → ℕ) (row : List ℕ) (old now new : Progress) (a m : ℕ) → depth < length sizes → AreValues sizes value → IsRoom rules now.best now.room → a < length row → m ≡ get_or row a 0 → ((k : ℕ) → k < length row → m ≤ get_or row k 0)
-      → IsVisiting sizes buckets rules depth f value row old now → IsOpened rules.budget m now new false → IsTurned sizes buckets rules depth value row old now → Visits (drop depth sizes) buckets rules depth value (far_of old) (far_of new)
+      → IsVisiting sizes buckets rules depth f value row old now → IsOpened rules.budget m now new false → IsTurned sizes buckets rules depth value row old now → VisitsFrom (drop depth sizes) buckets rules depth value (far_of old) (far_of new)
   visits_end depth f value row old now new a m lt all room inside at least visiting stopped turned =
       let g : ℕ → ℕ = λ b. estimate (depth + 1) buckets (with_own depth b value) in
-      let Under : ℕ → Far → Far → Type 0 = λ b before after. Visits (drop (depth + 1) sizes) buckets rules (depth + 1) (with_own depth b value) before after in
+      let Under : ℕ → Far → Far → Type 0 = λ b before after. VisitsFrom (drop (depth + 1) sizes) buckets rules (depth + 1) (with_own depth b value) before after in
       let own : (b : ℕ) → b < length row → AreValues sizes (with_own depth b value) = λ b h. own_values sizes rules.scale buckets grounds depth b value all (omega (arith, h, visiting.long)) in
       let within : (b : ℕ) → b < length row → g b ≤ amount_limit = λ b h. estimate_within sizes rules.scale buckets grounds (depth + 1) (with_own depth b value) (omega (arith, lt)) (own b h) in
       let low : (k : ℕ) → k < length row → get_or row a 0 ≤ get_or row k 0 = λ k h. (let most = least k h in omega (arith, most, at)) in
@@ -271,7 +271,7 @@ module _ (sizes : List ℕ) (buckets : List Bucket) (rules : Rules) (grounds : A
             let is : m ≡ g a = at ∙ entry in
             let here = subst (λ (n : ℕ). PassesOver rules n (far_of now) (far_of new) ⊎ LeavesOpen rules n (far_of now) (far_of new)) is (stopped_turn m now new (omega (arith, is, within a inside)) room stopped) in
             let long = length-set row a done in
-            let later : (b : ℕ) → b < length (set row a done) → get_or (set row a done) b 0 < done → (get_or (set row a done) b 0 ≡ g b) × IsTurn rules (g b) (Under b) (far_of new) (far_of new) = λ b h less.
+            let later : (b : ℕ) → b < length (set row a done) → get_or (set row a done) b 0 < done → (get_or (set row a done) b 0 ≡ g b) × IsValueTurn rules (g b) (Under b) (far_of new) (far_of new) = λ b h less.
             elim (cases_eq b a) [
               | inl same ↦ absurd (let marked = ap (λ (k : ℕ). get_or (set row a done) k 0) same ∙ get_or-set_same row a done 0 inside in omega (arith, marked, less))
               | inr other ↦
@@ -297,9 +297,9 @@ module _ (sizes : List ℕ) (buckets : List Bucket) (rules : Rules) (grounds : A
             subst (λ (s : Far). VisitsEach rules g (length row) Under (far_of old) s) (sym still)
             (turned_end rules g Under row (far_of old) (far_of now) (λ k h. (let most = low k h in omega (arith, most, marked))) turned)
       ] in
-      subst (λ (ss : List ℕ). Visits ss buckets rules depth value (far_of old) (far_of new)) (sym (drop_more sizes depth 0 lt))
+      subst (λ (ss : List ℕ). VisitsFrom ss buckets rules depth value (far_of old) (far_of new)) (sym (drop_more sizes depth 0 lt))
       (subst (λ (n : ℕ). VisitsEach rules g n Under (far_of old) (far_of new)) visiting.long each)
 
   -- a descent from the first variable on
-  pub visited_all : (value : ℕ → ℕ) (old new : Progress) → Visits sizes buckets rules 0 value (far_of old) (far_of new) → HasVisited sizes buckets rules (far_of old) (far_of new)
+  pub visited_all : (value : ℕ → ℕ) (old new : Progress) → VisitsFrom sizes buckets rules 0 value (far_of old) (far_of new) → HasVisited sizes buckets rules (far_of old) (far_of new)
   visited_all value old new visits = visits_agree sizes 0 (λ v. 0) value (far_of old) (far_of new) (omega arith) (λ v lt. absurd (omega (arith, lt))) visits

@@ -21,7 +21,7 @@ pub record IsRoom (rules : Rules) (best : Option ℕ) (room : ℕ) : Type 0 wher
   pub counted : room ≤ count_limit
 
 -- these values are an assignment with the best known cost
-pub record IsTaken (sizes : List ℕ) (scale : ℕ) (buckets : List Bucket) (best : Option ℕ) (values : List ℕ) : Type 0 where
+pub record HaveBestCost (sizes : List ℕ) (scale : ℕ) (buckets : List Bucket) (best : Option ℕ) (values : List ℕ) : Type 0 where
   pub within : AreWithin sizes values
   pub cost : ℕ
   pub best_is : best ≡ Some cost
@@ -30,7 +30,7 @@ pub record IsTaken (sizes : List ℕ) (scale : ℕ) (buckets : List Bucket) (bes
 -- what holds of a search at any time
 pub record IsStanding (sizes : List ℕ) (buckets : List Bucket) (rules : Rules) (found : List ℕ) (now : Progress) : Type 0 where
   pub many : length found ≡ length sizes
-  pub taken : now.found ≡ true → IsTaken sizes rules.scale buckets now.best found
+  pub taken : now.found ≡ true → HaveBestCost sizes rules.scale buckets now.best found
   pub room : IsRoom rules now.best now.room
   pub spent : now.spent ≡ true → rules.budget ≤ now.nodes
 

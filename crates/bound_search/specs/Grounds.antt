@@ -6,7 +6,7 @@ use Rattle.dcop_base.specs.Table.{CostTable, AreWithin, values_at}
 use Rattle.dcop_base.specs.Values.{cost_with, with_own}
 use Rattle.shared_costs.specs.Values.{AreValues}
 use Rattle.shared_costs.specs.Tables.{AreDepths, depths_cost}
-use Rattle.bucket_bounds.specs.Bounds.{AreBounds, tables_in}
+use Rattle.bucket_bounds.specs.Bounds.{AreBucketBounds, tables_in}
 use Rattle.bucket_bounds.specs.declared.bucket.Bucket.{Bucket}
 
 -- the scaled cost of these values of all variables
@@ -16,7 +16,7 @@ scaled_cost buckets value = depths_cost (tables_in buckets) value
 -- buckets of variables with these sizes, whose tables sum to scaled costs, and bounds on them
 pub record AreGrounds (sizes : List ℕ) (scale : ℕ) (buckets : List Bucket) : Type 0 where
   pub depths : AreDepths sizes (tables_in buckets)
-  pub bounds : AreBounds sizes (tables_in buckets) buckets
+  pub bounds : AreBucketBounds sizes (tables_in buckets) buckets
   pub scaled : 1 ≤ scale
   pub whole : (value : ℕ → ℕ) → AreValues sizes value → (cost : ℕ) × (scaled_cost buckets value ≡ scale * cost)
   pub some : 1 ≤ length sizes
@@ -34,5 +34,5 @@ pub record HasRow (values : List ℕ) (var : ℕ) (count : ℕ) (t : CostTable) 
   pub each : (d : ℕ) → d < count → AreWithin t.sizes (map (with_own var d (slice_index values)) t.scope)
 
 -- to each entry of the row of a variable was added what tables cost at its value, when the others have these values
-abbrev pub AreAdded : List ℕ → ℕ → List CostTable → List ℕ → List ℕ → Type 0
-AreAdded values var ts old new = (d : ℕ) → d < length old → slice_index new d ≡ slice_index old d + cost_with ts (with_own var d (slice_index values))
+abbrev pub HasRowAdded : List ℕ → ℕ → List CostTable → List ℕ → List ℕ → Type 0
+HasRowAdded values var ts old new = (d : ℕ) → d < length old → slice_index new d ≡ slice_index old d + cost_with ts (with_own var d (slice_index values))

@@ -4,14 +4,14 @@ use Rattle.dcop_base.specs.Problem.{Dcop, IsAssignment, cost}
 use Rattle.bound_search.specs.declared.known.Known.{Known}
 
 -- the values that were found are an assignment, and its cost is the best known cost
-pub record IsFound (p : Dcop) (known : Known) : Type 0 where
+pub record AreValuesFound (p : Dcop) (known : Known) : Type 0 where
   pub assignment : IsAssignment p known.values
   pub cost : known.best ≡ Some (cost p known.values)
 
 -- there is a value for each variable; if an assignment was found, these values are one, and its cost is the best known cost
 pub record IsKnown (p : Dcop) (known : Known) : Type 0 where
   pub many : length known.values ≡ length p.sizes
-  pub found : known.found ≡ true → IsFound p known
+  pub found : known.found ≡ true → AreValuesFound p known
 
 -- equally good or better; nothing known is the worst
 abbrev pub IsNoWorse : Option ℕ → Option ℕ → Type 0

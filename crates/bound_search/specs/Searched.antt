@@ -12,7 +12,7 @@ use Rattle.bound_search.specs.declared.known.Known.{Known}
 use Rattle.bound_search.specs.declared.searching.Ended.{Ended}
 
 -- a search that has ended: something is known, and it is at most the lower bound plus the error
-pub record HasEnded (error : ℕ) (known : Known) (lower : ℕ) : Type 0 where
+pub record HasSearchEnded (error : ℕ) (known : Known) (lower : ℕ) : Type 0 where
   pub best : ℕ
   pub known_is : known.best ≡ Some best
   pub within : best ≤ lower + error
@@ -24,7 +24,7 @@ pub record IsSpent (budget : ℕ) (known : Known) : Type 0 where
 
 -- how a search ended
 abbrev pub EndsSo : ℕ → ℕ → Known → Ended → Type 0
-EndsSo error budget known ended = ((ended.spent ≡ false) × HasEnded error known ended.lower) ⊎ ((ended.spent ≡ true) × IsSpent budget known)
+EndsSo error budget known ended = ((ended.spent ≡ false) × HasSearchEnded error known ended.lower) ⊎ ((ended.spent ≡ true) × IsSpent budget known)
 
 -- the most nodes in all after a search: the budget, or the nodes before it if these are more; if nothing is known before it, also the nodes before it and one for each variable
 abbrev pub most_nodes : ℕ → ℕ → Option ℕ → ℕ → ℕ
@@ -46,7 +46,7 @@ pub record GoesStraight (count : ℕ) (old new : Known) (ended : Ended) : Type 0
   pub few : new.nodes ≤ old.nodes + count
 
 -- a search of a problem by these buckets of costs with this scale: what is known before and after it, and how it ended; its lower bound is the least estimate, and it is spent exactly if a value was left open
-pub record IsSearched (p : Dcop) (scale : ℕ) (buckets : List Bucket) (error budget : ℕ) (old new : Known) (ended : Ended) : Type 0 where
+pub record IsBoundSearch (p : Dcop) (scale : ℕ) (buckets : List Bucket) (error budget : ℕ) (old new : Known) (ended : Ended) : Type 0 where
   pub known : IsKnown p new
   pub more : KnowsMore old new
   pub found : old.best ≡ None → new.found ≡ true

@@ -32,27 +32,27 @@ abbrev pub LeavesOpen : Rules → ℕ → Far → Far → Type 0
 LeavesOpen rules f old new = (¬ IsPassedOver rules.scale rules.error old.best f) × (rules.budget ≤ old.nodes) × ((best : ℕ) × (old.best ≡ Some best)) × (new ≡ far old.best old.nodes (min old.least f) true)
 
 -- the turn of a value with this estimate: it is a node, which is counted and then what is below it is searched; or it is passed over; or it is left open
-abbrev pub IsTurn : Rules → ℕ → (Far → Far → Type 0) → Far → Far → Type 0
-IsTurn rules f Behind old new = (IsNode rules f old × Behind (far old.best (old.nodes + 1) old.least old.left_open) new) ⊎ (PassesOver rules f old new ⊎ LeavesOpen rules f old new)
+abbrev pub IsValueTurn : Rules → ℕ → (Far → Far → Type 0) → Far → Far → Type 0
+IsValueTurn rules f Behind old new = (IsNode rules f old × Behind (far old.best (old.nodes + 1) old.least old.left_open) new) ⊎ (PassesOver rules f old new ⊎ LeavesOpen rules f old new)
 
 -- these values have their turns, one after the other
-abbrev pub AreTurns : Rules → (ℕ → ℕ) → (ℕ → Far → Far → Type 0) → List ℕ → Far → Far → Type 0
-AreTurns rules f Behind [] old new = new ≡ old
-AreTurns rules f Behind (a ∷ later) old new = (mid : Far) × (IsTurn rules (f a) (Behind a) old mid) × (AreTurns rules f Behind later mid new)
+abbrev pub AreValueTurns : Rules → (ℕ → ℕ) → (ℕ → Far → Far → Type 0) → List ℕ → Far → Far → Type 0
+AreValueTurns rules f Behind [] old new = new ≡ old
+AreValueTurns rules f Behind (a ∷ later) old new = (mid : Far) × (IsValueTurn rules (f a) (Behind a) old mid) × (AreValueTurns rules f Behind later mid new)
 
 -- each value of a variable with this size has one turn, in ascending order of the estimates
 pub record VisitsEach (rules : Rules) (f : ℕ → ℕ) (size : ℕ) (Behind : ℕ → Far → Far → Type 0) (old new : Far) : Type 0 where
   pub order : List ℕ
   pub each : IsPermutation (range_with_len 0 size) order
   pub ascending : IsNonDecreasingBy f order
-  pub turns : AreTurns rules f Behind order old new
+  pub turns : AreValueTurns rules f Behind order old new
 
 -- what is visited from this depth on, after these values of the variables before, when the others have these sizes: the values of the next one, and after each node what is visited from the next depth on; with no variable left, the assignment becomes the best known one
-abbrev pub Visits : List ℕ → List Bucket → Rules → ℕ → (ℕ → ℕ) → Far → Far → Type 0
-Visits [] buckets rules depth value old new = (cost : ℕ) × (scaled_cost buckets value ≡ rules.scale * cost) × (new ≡ far (Some cost) old.nodes (min old.least (rules.scale * cost)) old.left_open)
-Visits (size ∷ sizes) buckets rules depth value old new =
-    VisitsEach rules (λ a. estimate (depth + 1) buckets (with_own depth a value)) size (λ a before after. Visits sizes buckets rules (depth + 1) (with_own depth a value) before after) old new
+abbrev pub VisitsFrom : List ℕ → List Bucket → Rules → ℕ → (ℕ → ℕ) → Far → Far → Type 0
+VisitsFrom [] buckets rules depth value old new = (cost : ℕ) × (scaled_cost buckets value ≡ rules.scale * cost) × (new ≡ far (Some cost) old.nodes (min old.least (rules.scale * cost)) old.left_open)
+VisitsFrom (size ∷ sizes) buckets rules depth value old new =
+    VisitsEach rules (λ a. estimate (depth + 1) buckets (with_own depth a value)) size (λ a before after. VisitsFrom sizes buckets rules (depth + 1) (with_own depth a value) before after) old new
 
 -- a whole search: it visits from the first variable on
 abbrev pub HasVisited : List ℕ → List Bucket → Rules → Far → Far → Type 0
-HasVisited sizes buckets rules old new = Visits sizes buckets rules 0 (λ v. 0) old new
+HasVisited sizes buckets rules old new = VisitsFrom sizes buckets rules 0 (λ v. 0) old new

@@ -8,7 +8,7 @@ ghost use Rattle.shared_costs.specs.Values.{AgreeBelow};
 ghost use Rattle.bound_search.specs.Estimate.{estimate};
 ghost use Rattle.bound_search.specs.Grounds.{AreGrounds};
 ghost use Rattle.bound_search.specs.Descent.{HasDescended, IsOpened, IsRoom, IsStanding, far_of};
-ghost use Rattle.bound_search.specs.Visits.{Visits};
+ghost use Rattle.bound_search.specs.Visits.{VisitsFrom};
 
 use crate::progress::Progress;
 use crate::room::room_of;
@@ -44,7 +44,7 @@ pub(crate) fn descend(
     ensures standing { IsStanding sizes.now buckets.now rules found.new progress.new }
     ensures descended { HasDescended sizes.now buckets.now rules depth least
         (slice_index values.old) progress.old progress.new }
-    ensures visits { Visits (drop depth sizes.now) buckets.now rules depth (slice_index values.old)
+    ensures visits { VisitsFrom (drop depth sizes.now) buckets.now rules depth (slice_index values.old)
         (far_of progress.old) (far_of progress.new) }
 {
     if depth == sizes.len() {

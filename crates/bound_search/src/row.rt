@@ -6,7 +6,7 @@ ghost use Rattle.dcop_base.specs.Limits.{amount_limit};
 ghost use Rattle.dcop_base.specs.Table.{AreWithin, cell_place, product, values_at};
 ghost use Rattle.dcop_base.specs.Values.{cell_with, cost_with, with_own};
 ghost use Rattle.util_join.specs.Strides.{stride};
-ghost use Rattle.bound_search.specs.Grounds.{AreAdded, HasCell, HasRow};
+ghost use Rattle.bound_search.specs.Grounds.{HasRowAdded, HasCell, HasRow};
 
 use bucket_bounds::Bucket;
 use dcop_base::{Table, Val, VarId, place_of, product_of};
@@ -67,7 +67,7 @@ fn add_tables(row: &mut [u64], tables: &[Table], values: &[Val], var: VarId)
     requires cells { All (HasRow values.now var (length row.old)) tables.now }
     requires within { (d : ℕ) → d < length row.old → slice_index row.old d
         + cost_with tables.now (with_own var d (slice_index values.now)) ≤ amount_limit }
-    ensures { AreAdded values.now var tables.now row.old row.new }
+    ensures { HasRowAdded values.now var tables.now row.old row.new }
 {
     for table in tables {
         add_table(row, table, values, var);

@@ -3,14 +3,14 @@
 ghost use Rattle.std.specs.Prelude.{◌≡◌, ◌+◌, ◌≤◌, false, length, IfOk, OnOk};
 ghost use Rattle.std.specs.List.{sum};
 ghost use Rattle.shared_costs.specs.Shared.{AreSharedCosts};
-ghost use Rattle.bucket_bounds.specs.Bounds.{AreBounds};
+ghost use Rattle.bucket_bounds.specs.Bounds.{AreBucketBounds};
 ghost use Rattle.dcop_base.specs.Limits.{amount_limit, variable_limit};
 ghost use Rattle.bound_search.specs.Estimate.{unscaled};
 ghost use Rattle.bound_search.specs.Grounds.{AreGrounds};
 ghost use Rattle.bound_search.specs.Descent.{IsStanding, far_of};
 ghost use Rattle.bound_search.specs.First.{HasSearched, constants_cost, first_sum};
 ghost use Rattle.bound_search.specs.Known.{IsKnown};
-ghost use Rattle.bound_search.specs.Searched.{IsSearched};
+ghost use Rattle.bound_search.specs.Searched.{IsBoundSearch};
 ghost use Rattle.bound_search.specs.Visits.{HasVisited};
 
 use crate::descent::descend;
@@ -59,10 +59,10 @@ pub fn search(
     known: &mut Known,
 ) -> Result<Ended, NoMemory>
     requires shared { AreSharedCosts problem.now shared.now }
-    requires bounds { AreBounds problem.now.sizes shared.now.depths buckets.now }
+    requires bounds { AreBucketBounds problem.now.sizes shared.now.depths buckets.now }
     requires known { IsKnown problem.now known.old }
     requires few { known.old.nodes ≤ 4611686018427387904 }
-    ensures { IfOk result (IsSearched problem.now shared.now.scale buckets.now limits.error
+    ensures { IfOk result (IsBoundSearch problem.now shared.now.scale buckets.now limits.error
         limits.budget known.old known.new) }
 {
     problem_is_whole(problem);

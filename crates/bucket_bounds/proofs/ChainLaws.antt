@@ -10,7 +10,7 @@ use Rattle.shared_costs.specs.Values.{AreValues, AgreeBelow}
 use Rattle.shared_costs.specs.Tables.{depths_cost}
 use Rattle.bucket_bounds.specs.Bounds.{bounds_from, tables_in}
 use Rattle.bucket_bounds.specs.Exact.{IsUnparted}
-use Rattle.bucket_bounds.specs.Made.{IsItem, IsBound, AreMade}
+use Rattle.bucket_bounds.specs.Made.{IsItem, IsBoundTable, AreMade}
 use Rattle.bucket_bounds.specs.declared.bucket.Bucket.{Bucket}
 use Rattle.bucket_bounds.proofs.CellLaws.{cost_agrees, own_agrees, own_values, agrees_before, below_without}
 
@@ -21,30 +21,30 @@ fixed_in buckets = sum_by (λ bucket. bucket.fixed) buckets
 -- each bucket sends tables over the variables before its own
 abbrev pub AreSent : List ℕ → ℕ → List Bucket → Type 0
 AreSent sizes p [] = Unit {0}
-AreSent sizes p (bucket ∷ later) = All (IsBound sizes p) bucket.sent × AreSent sizes (p + 1) later
+AreSent sizes p (bucket ∷ later) = All (IsBoundTable sizes p) bucket.sent × AreSent sizes (p + 1) later
 
 pub sent_of_made : (sizes : List ℕ) (p : ℕ) (bs : List Bucket) → AreMade sizes p bs → AreSent sizes p bs
 sent_of_made sizes p [] made = tt
 sent_of_made sizes p (b ∷ bs) made = (made.0.sent, sent_of_made sizes (p + 1) bs made.1)
 
 -- a bound that does not name p and is of depth p + 1 is of depth p
-bound_before : (sizes : List ℕ) (p : ℕ) (t : CostTable) → IsBound sizes (p + 1) t → not (has t.scope p) ≡ true → IsBound sizes p t
+bound_before : (sizes : List ℕ) (p : ℕ) (t : CostTable) → IsBoundTable sizes (p + 1) t → not (has t.scope p) ≡ true → IsBoundTable sizes p t
 bound_before sizes p t is test = (is.0, below_without p t.scope is.1 (un_not (has t.scope p) test))
   where
     un_not : (b : Bool) → not b ≡ true → b ≡ false
     un_not Bool.true e = absurd (cc)
     un_not Bool.false e = refl
 
-pub stayed_before : (sizes : List ℕ) (p : ℕ) (ts : List CostTable) → All (IsBound sizes (p + 1)) ts → All (IsBound sizes p) (filter (λ t. not (has t.scope p)) ts)
+pub stayed_before : (sizes : List ℕ) (p : ℕ) (ts : List CostTable) → All (IsBoundTable sizes (p + 1)) ts → All (IsBoundTable sizes p) (filter (λ t. not (has t.scope p)) ts)
 stayed_before sizes p ts all k d lt =
     let q : CostTable → Bool = λ t. not (has t.scope p) in
-    bound_before sizes p (get_or (filter q ts) k d) (All-filter q (IsBound sizes (p + 1)) ts all k d lt) (filter_passes q ts k d lt)
+    bound_before sizes p (get_or (filter q ts) k d) (All-filter q (IsBoundTable sizes (p + 1)) ts all k d lt) (filter_passes q ts k d lt)
 
 -- the bounds of depth p are tables over the variables before p
-pub bounds_before : (sizes : List ℕ) (p : ℕ) (bs : List Bucket) → AreSent sizes p bs → All (IsBound sizes p) (bounds_from p bs)
-bounds_before sizes p [] sent = All-nil (IsBound sizes p)
+pub bounds_before : (sizes : List ℕ) (p : ℕ) (bs : List Bucket) → AreSent sizes p bs → All (IsBoundTable sizes p) (bounds_from p bs)
+bounds_before sizes p [] sent = All-nil (IsBoundTable sizes p)
 bounds_before sizes p (b ∷ bs) sent =
-    All-append (IsBound sizes p) (filter (λ t. not (has t.scope p)) (bounds_from (p + 1) bs)) b.sent
+    All-append (IsBoundTable sizes p) (filter (λ t. not (has t.scope p)) (bounds_from (p + 1) bs)) b.sent
     (stayed_before sizes p (bounds_from (p + 1) bs) (bounds_before sizes (p + 1) bs sent.1)) sent.0
 
 -- bounds come to the bucket of p, or stay

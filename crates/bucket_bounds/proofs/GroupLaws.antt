@@ -14,7 +14,7 @@ use Rattle.dcop_base.specs.Table.{CostTable, has, has_repeat, product}
 use Rattle.dcop_base.proofs.TableLaws.{parts-of}
 use Rattle.shared_costs.specs.Tables.{IsTableOver}
 use Rattle.bucket_bounds.specs.Union.{cells_over, times_more, IsUnion}
-use Rattle.bucket_bounds.specs.Groups.{IsGroup, IsGroupOf, AddsTo, Fits, AreGroups, tables_of}
+use Rattle.bucket_bounds.specs.Groups.{IsGroup, IsGroupOf, AddsTo, FitsLimit, AreGroups, tables_of}
 use Rattle.bucket_bounds.specs.Parting.{IsScopeOf, LiesAmong}
 use Rattle.bucket_bounds.specs.declared.group.Group.{Group}
 
@@ -108,7 +108,7 @@ module _ (sizes : List ℕ) (t : CostTable) (g : Group) (is : IsTableOver sizes 
 
 -- a group with one table more
 module _ (sizes : List ℕ) (t : CostTable) (old new : Group) (is : IsTableOver sizes t) (adds : AddsTo sizes old t new) where
-  more_group : (limit : ℕ) → IsGroup sizes limit old → Fits sizes t.scope limit old → limit ≤ joined_limit → IsGroup sizes limit new
+  more_group : (limit : ℕ) → IsGroup sizes limit old → FitsLimit sizes t.scope limit old → limit ≤ joined_limit → IsGroup sizes limit new
   more_group limit group fits small =
       let count : new.cells ≡ old.cells * times_more sizes old.vars t.scope = omega (arith, adds.cells, fits, small) in
       let long = ap (λ (ts : List CostTable). length ts) adds.tables ∙ length-append old.tables.items (t ∷ []) in
@@ -167,7 +167,7 @@ module _ (sizes : List ℕ) (limit : ℕ) (ts : List CostTable) (k : ℕ) (t : C
         (subst (λ (us : List CostTable). IsPermutation (take (k + 1) ts) us) (sym (tables_opened groups t g opens.tables)) (now (tables_of groups ++ t ∷ []) (IsPermutation-refl (tables_of groups ++ t ∷ []))));
   }
 
-  pub groups_widened : (place : ℕ) (old new : Group) → limit ≤ joined_limit → place < length groups → old ≡ get_or groups place old → Fits sizes t.scope limit old → AddsTo sizes old t new → news ≡ set groups place new → AreGroups sizes limit (take (k + 1) ts) news
+  pub groups_widened : (place : ℕ) (old new : Group) → limit ≤ joined_limit → place < length groups → old ≡ get_or groups place old → FitsLimit sizes t.scope limit old → AddsTo sizes old t new → news ≡ set groups place new → AreGroups sizes limit (take (k + 1) ts) news
   groups_widened place old new small inside found fits adds e = record {
     each = subst (λ (gs : List Group). All (IsGroup sizes limit) gs) (sym e)
         (All-set (IsGroup sizes limit) groups place new (more_group sizes t old new over adds limit (subst (IsGroup sizes limit) (sym found) (before.each place old inside)) fits small) before.each);

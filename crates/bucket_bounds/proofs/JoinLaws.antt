@@ -16,7 +16,7 @@ use Rattle.shared_costs.specs.Tables.{IsTableOver}
 use Rattle.bucket_bounds.specs.Groups.{IsGroup}
 use Rattle.bucket_bounds.specs.Parting.{IsScopeOf, LiesAmong}
 use Rattle.bucket_bounds.specs.Parts.{IsJoinOf}
-use Rattle.bucket_bounds.specs.Joining.{AreUncapped, HasGained, IsCostOf, IsZeroFor}
+use Rattle.bucket_bounds.specs.Joining.{AreUncapped, HasGainedCosts, IsBucketCostOf, IsZeroFor}
 use Rattle.bucket_bounds.specs.declared.group.Group.{Group}
 use Rattle.bucket_bounds.specs.Union.{IsTurned}
 use Rattle.bucket_bounds.proofs.GroupLaws.{all_had, had_of, scope_within, scope_one}
@@ -24,7 +24,7 @@ use Rattle.bucket_bounds.proofs.KeptLaws.{cost_more}
 use Rattle.bucket_bounds.proofs.ProjectLaws.{read_map, within_map}
 
 -- a table of zeros costs nothing
-pub zeros_cost : (over sizes : List ℕ) (t : CostTable) → IsTableOfParts over sizes (replicate (product sizes) 0) t → IsCostOf over sizes (λ value. 0) t
+pub zeros_cost : (over sizes : List ℕ) (t : CostTable) → IsTableOfParts over sizes (replicate (product sizes) 0) t → IsBucketCostOf over sizes (λ value. 0) t
 zeros_cost over sizes t parts = record {
   same_scope = parts.0;
   same_sizes = parts.1;
@@ -37,7 +37,7 @@ zeros_cost over sizes t parts = record {
 }
 
 -- the same costs
-same_costs : (over sizes : List ℕ) (f g : (ℕ → ℕ) → ℕ) (t : CostTable) → IsCostOf over sizes f t → ((value : ℕ → ℕ) → f value ≡ g value) → IsCostOf over sizes g t
+same_costs : (over sizes : List ℕ) (f g : (ℕ → ℕ) → ℕ) (t : CostTable) → IsBucketCostOf over sizes f t → ((value : ℕ → ℕ) → f value ≡ g value) → IsBucketCostOf over sizes g t
 same_costs over sizes f g t is same = record {
   same_scope = is.same_scope;
   same_sizes = is.same_sizes;
@@ -45,7 +45,7 @@ same_costs over sizes f g t is same = record {
 }
 
 -- one more table
-sum_more : (over sizes : List ℕ) (f : (ℕ → ℕ) → ℕ) (old t new : CostTable) → IsCostOf over sizes f old → IsSum old t new → IsCostOf over sizes (λ value. f value + cell_with t value) new
+sum_more : (over sizes : List ℕ) (f : (ℕ → ℕ) → ℕ) (old t new : CostTable) → IsBucketCostOf over sizes f old → IsSum old t new → IsBucketCostOf over sizes (λ value. f value + cell_with t value) new
 sum_more over sizes f old t new is sum = record {
   same_scope = sum.same_scope ∙ is.same_scope;
   same_sizes = sum.same_sizes ∙ is.same_sizes;
@@ -58,17 +58,17 @@ sum_more over sizes f old t new is sum = record {
 }
 
 -- a table that gained nothing, or one table more
-pub gained_none : (t : CostTable) → HasGained [] t t
+pub gained_none : (t : CostTable) → HasGainedCosts [] t t
 gained_none t = record {
   same_scope = refl;
   same_sizes = refl;
   costs = λ f is. same_costs t.scope t.sizes f (λ value. f value + 0) t is (λ value. omega arith);
 }
 
-pub gained_more : (ts : List CostTable) (k : ℕ) (old now t new : CostTable) → k < length ts → t ≡ get_or ts k t → HasGained (take k ts) old now → IsSum now t new → HasGained (take (k + 1) ts) old new
+pub gained_more : (ts : List CostTable) (k : ℕ) (old now t new : CostTable) → k < length ts → t ≡ get_or ts k t → HasGainedCosts (take k ts) old now → IsSum now t new → HasGainedCosts (take (k + 1) ts) old new
 gained_more ts k old now t new lt is gained sum =
     let next : take (k + 1) ts ≡ take k ts ++ t ∷ [] = take_more ts k t lt ∙ ap (λ (u : CostTable). take k ts ++ u ∷ []) (sym is) in
-    subst (λ (us : List CostTable). HasGained us old new) (sym next) (record {
+    subst (λ (us : List CostTable). HasGainedCosts us old new) (sym next) (record {
       same_scope = sum.same_scope ∙ gained.same_scope;
       same_sizes = sum.same_sizes ∙ gained.same_sizes;
       costs = λ f is.
@@ -77,14 +77,14 @@ gained_more ts k old now t new lt is gained sum =
           (λ value. let e = cost_more (take k ts) t value in omega (arith, e));
     })
 
-at_itself : (over sizes : List ℕ) (f : (ℕ → ℕ) → ℕ) (t : CostTable) → IsCostOf over sizes f t → IsCostOf t.scope t.sizes f t
+at_itself : (over sizes : List ℕ) (f : (ℕ → ℕ) → ℕ) (t : CostTable) → IsBucketCostOf over sizes f t → IsBucketCostOf t.scope t.sizes f t
 at_itself over sizes f t is =
-    subst (λ (ss : List ℕ). IsCostOf t.scope ss f t) (sym is.same_sizes) (subst (λ (vs : List ℕ). IsCostOf vs sizes f t) (sym is.same_scope) is)
+    subst (λ (ss : List ℕ). IsBucketCostOf t.scope ss f t) (sym is.same_sizes) (subst (λ (vs : List ℕ). IsBucketCostOf vs sizes f t) (sym is.same_scope) is)
 
-pub gains : (over sizes : List ℕ) (f : (ℕ → ℕ) → ℕ) (ts : List CostTable) (old new : CostTable) → IsCostOf over sizes f old → HasGained ts old new → IsCostOf over sizes (λ value. f value + cost_with ts value) new
+pub gains : (over sizes : List ℕ) (f : (ℕ → ℕ) → ℕ) (ts : List CostTable) (old new : CostTable) → IsBucketCostOf over sizes f old → HasGainedCosts ts old new → IsBucketCostOf over sizes (λ value. f value + cost_with ts value) new
 gains over sizes f ts old new is gained =
-    subst (λ (ss : List ℕ). IsCostOf over ss (λ value. f value + cost_with ts value) new) is.same_sizes
-    (subst (λ (vs : List ℕ). IsCostOf vs old.sizes (λ value. f value + cost_with ts value) new) is.same_scope (gained.costs f (at_itself over sizes f old is)))
+    subst (λ (ss : List ℕ). IsBucketCostOf over ss (λ value. f value + cost_with ts value) new) is.same_sizes
+    (subst (λ (vs : List ℕ). IsBucketCostOf vs old.sizes (λ value. f value + cost_with ts value) new) is.same_scope (gained.costs f (at_itself over sizes f old is)))
 
 -- tables over the variables of a group lie in a table over all of them
 read_each : (f : ℕ → ℕ) (over vs : List ℕ) → All (λ v. has over v ≡ true) vs → map f vs ≡ map (λ v. slice_index (map f over) (place_in over v)) vs
@@ -105,7 +105,7 @@ pub turned_all : (P : ℕ → Type 0) (vars over : List ℕ) → IsTurned vars o
 turned_all P vars over turned all = all_had P over (λ u h. had_of P vars u all (sym (turned.same u) ∙ h))
 
 -- what was made of zeros by adding the tables of a group is its joined table
-pub join_is : (sizes : List ℕ) (limit : ℕ) (g : Group) (zero t : CostTable) → IsGroup sizes limit g → AreUncapped sizes g.tables.items → IsZeroFor sizes g.vars zero → HasGained g.tables.items zero t → IsTable t → IsJoinOf sizes g.tables.items t
+pub join_is : (sizes : List ℕ) (limit : ℕ) (g : Group) (zero t : CostTable) → IsGroup sizes limit g → AreUncapped sizes g.tables.items → IsZeroFor sizes g.vars zero → HasGainedCosts g.tables.items zero t → IsTable t → IsJoinOf sizes g.tables.items t
 join_is sizes limit g zero t group uncapped is gained whole =
     let f : ℕ → ℕ = λ v. slice_index sizes v in
     let over = is.over in

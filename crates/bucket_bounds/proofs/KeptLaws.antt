@@ -12,8 +12,8 @@ use Rattle.dcop_base.specs.Table.{CostTable, IsTable, product, cell_place}
 use Rattle.dcop_base.specs.Faults.{cell_count}
 use Rattle.dcop_base.specs.Values.{cell_with, cost_with}
 use Rattle.dcop_base.proofs.TableLaws.{parts-of, cell_place-lt}
-use Rattle.bucket_bounds.specs.Kept.{least, least_cost, AreKept}
-use Rattle.bucket_bounds.specs.Keeping.{IsKept, IsKeptOf, IsKeptWhole, IsKeptLeast}
+use Rattle.bucket_bounds.specs.Kept.{least, least_cost, AreProjectionsKept}
+use Rattle.bucket_bounds.specs.Keeping.{IsTableKept, IsKeptOf, IsKeptWhole, IsKeptLeast}
 use Rattle.bucket_bounds.specs.declared.keeping.Kept.{Kept}
 use Rattle.bucket_bounds.proofs.CellLaws.{IsWithin}
 
@@ -189,7 +189,7 @@ module _ (ts : List CostTable) (room : ℕ) (t : CostTable) (old new : Kept) (be
       let left_now : cell_count new.sent.items + new.room ≡ room = (let count = ap cell_count now.sent in omega (arith, count, left, now.room)) in
       elim now.why [
         | inl plain ↦ record {
-          are = subst (λ (us : List CostTable). AreKept room (ts ++ t ∷ []) us new.fixed new.replaced) (sym now.sent) (record {
+          are = subst (λ (us : List CostTable). AreProjectionsKept room (ts ++ t ∷ []) us new.fixed new.replaced) (sym now.sent) (record {
             closed = t ∷ closed;
             large = large;
             each = IsPermutation-push_more ts (closed ++ large ++ sent) (t ∷ (closed ++ large ++ sent)) t before.are.each (IsPermutation-refl (t ∷ (closed ++ large ++ sent)));
@@ -214,7 +214,7 @@ module _ (ts : List CostTable) (room : ℕ) (t : CostTable) (old new : Kept) (be
             let order : IsPermutation (t ∷ (closed ++ large ++ sent)) ((closed ++ (t ∷ large)) ++ sent) =
             IsPermutation-append_left sent (t ∷ (closed ++ large)) (closed ++ (t ∷ large)) (IsPermutation-sym (closed ++ (t ∷ large)) (t ∷ (closed ++ large)) (IsPermutation-middle closed t large)) in
             record {
-              are = subst (λ (us : List CostTable). AreKept room (ts ++ t ∷ []) us new.fixed new.replaced) (sym now.sent) (record {
+              are = subst (λ (us : List CostTable). AreProjectionsKept room (ts ++ t ∷ []) us new.fixed new.replaced) (sym now.sent) (record {
                 closed = closed;
                 large = t ∷ large;
                 each = IsPermutation-push_more ts (closed ++ large ++ sent) ((closed ++ (t ∷ large)) ++ sent) t before.are.each order;
@@ -229,10 +229,10 @@ module _ (ts : List CostTable) (room : ℕ) (t : CostTable) (old new : Kept) (be
             }
       ]
 
-  kept_one : All (λ s. length s.cells ≤ length t.cells) ts → length ts < count_limit → IsKept old t new → IsKeptOf room (ts ++ t ∷ []) new
+  kept_one : All (λ s. length s.cells ≤ length t.cells) ts → length ts < count_limit → IsTableKept old t new → IsKeptOf room (ts ++ t ∷ []) new
   kept_one rising short now = elim now [ inl whole ↦ kept_whole rising whole | inr least ↦ kept_least rising short least ]
 
-pub kept_more : (ts : List CostTable) (k room : ℕ) (t : CostTable) (old new : Kept) → k < length ts → length ts ≤ count_limit → t ≡ get_or ts k t → All (λ s. length s.cells ≤ length t.cells) (take k ts) → IsKeptOf room (take k ts) old → IsKept old t new → IsKeptOf room (take (k + 1) ts) new
+pub kept_more : (ts : List CostTable) (k room : ℕ) (t : CostTable) (old new : Kept) → k < length ts → length ts ≤ count_limit → t ≡ get_or ts k t → All (λ s. length s.cells ≤ length t.cells) (take k ts) → IsKeptOf room (take k ts) old → IsTableKept old t new → IsKeptOf room (take (k + 1) ts) new
 kept_more ts k room t old new lt short is rising before now =
     let more : take (k + 1) ts ≡ take k ts ++ t ∷ [] = take_more ts k t lt ∙ ap (λ (u : CostTable). take k ts ++ u ∷ []) (sym is) in
     let count = length-take-le k ts (omega (arith, lt)) in
@@ -242,13 +242,13 @@ kept_more ts k room t old new lt short is rising before now =
 pub some_of : (n : ℕ) → eqb n 0 ≡ false → 1 ≤ n
 some_of n other = elim (cases_eq n 0) [ inl e ↦ absurd (true≢false (sym (eq-eqb n 0 e) ∙ other)) | inr some ↦ omega (arith, some) ]
 
-pub keeps_closed : (old : Kept) (t : CostTable) (n fixed : ℕ) → fixed ≡ min (old.fixed + n) count_limit → n ≡ least t.cells → t.scope ≡ [] → IsKept old t (record { sent = old.sent; fixed = fixed; replaced = old.replaced; room = old.room })
+pub keeps_closed : (old : Kept) (t : CostTable) (n fixed : ℕ) → fixed ≡ min (old.fixed + n) count_limit → n ≡ least t.cells → t.scope ≡ [] → IsTableKept old t (record { sent = old.sent; fixed = fixed; replaced = old.replaced; room = old.room })
 keeps_closed old t n fixed adds is plain = inr (record { sent = refl; fixed = adds ∙ ap (λ (m : ℕ). min (old.fixed + m) count_limit) is; room = refl; why = inl (plain, refl) })
 
-pub keeps_least : (old : Kept) (t : CostTable) (n fixed replaced : ℕ) → fixed ≡ min (old.fixed + n) count_limit → n ≡ least t.cells → 1 ≤ length t.scope → old.room < length t.cells → replaced ≡ min (old.replaced + 1) count_limit → IsKept old t (record { sent = old.sent; fixed = fixed; replaced = replaced; room = old.room })
+pub keeps_least : (old : Kept) (t : CostTable) (n fixed replaced : ℕ) → fixed ≡ min (old.fixed + n) count_limit → n ≡ least t.cells → 1 ≤ length t.scope → old.room < length t.cells → replaced ≡ min (old.replaced + 1) count_limit → IsTableKept old t (record { sent = old.sent; fixed = fixed; replaced = replaced; room = old.room })
 keeps_least old t n fixed replaced adds is named full more = inr (record { sent = refl; fixed = adds ∙ ap (λ (m : ℕ). min (old.fixed + m) count_limit) is; room = refl; why = inr (named, full, more) })
 
-pub keeps_table : (old new : Kept) (t copy : CostTable) → copy ≡ t → 1 ≤ length t.scope → new.sent.items ≡ old.sent.items ++ copy ∷ [] → length t.cells ≤ old.room → new.room ≡ old.room - length t.cells → new.fixed ≡ old.fixed → new.replaced ≡ old.replaced → IsKept old t new
+pub keeps_table : (old new : Kept) (t copy : CostTable) → copy ≡ t → 1 ≤ length t.scope → new.sent.items ≡ old.sent.items ++ copy ∷ [] → length t.cells ≤ old.room → new.room ≡ old.room - length t.cells → new.fixed ≡ old.fixed → new.replaced ≡ old.replaced → IsTableKept old t new
 keeps_table old new t copy same named sent fits room fixed replaced = inl (record {
   named = named;
   sent = sent ∙ ap (λ (u : CostTable). old.sent.items ++ u ∷ []) same;
@@ -259,7 +259,7 @@ keeps_table old new t copy same named sent fits room fixed replaced = inl (recor
 })
 
 -- what was kept of tables in another order
-pub kept_order : (room : ℕ) (projections ordered sent : List CostTable) (fixed replaced : ℕ) → IsPermutation projections ordered → AreKept room ordered sent fixed replaced → AreKept room projections sent fixed replaced
+pub kept_order : (room : ℕ) (projections ordered sent : List CostTable) (fixed replaced : ℕ) → IsPermutation projections ordered → AreProjectionsKept room ordered sent fixed replaced → AreProjectionsKept room projections sent fixed replaced
 kept_order room projections ordered sent fixed replaced order are = record {
   closed = are.closed;
   large = are.large;

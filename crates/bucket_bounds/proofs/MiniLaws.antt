@@ -17,10 +17,10 @@ use Rattle.shared_costs.proofs.ShareLaws.{share-keeps}
 use Rattle.bucket_bounds.specs.Bounds.{bounds_from, kept_cells}
 use Rattle.bucket_bounds.specs.Exact.{IsUnparted}
 use Rattle.bucket_bounds.specs.Kept.{least_cost}
-use Rattle.bucket_bounds.specs.Made.{IsItem, IsBound, IsMade, AreMade}
+use Rattle.bucket_bounds.specs.Made.{IsItem, IsBoundTable, IsBucketMade, AreMade}
 use Rattle.bucket_bounds.specs.MiniBuckets.{IsMiniBucket, AreMiniBuckets}
 use Rattle.bucket_bounds.specs.Parting.{IsReplacedDuly, LiesAmong}
-use Rattle.bucket_bounds.specs.Parts.{IsJoinOf, AreParts}
+use Rattle.bucket_bounds.specs.Parts.{IsJoinOf, AreGroupsJoined}
 use Rattle.bucket_bounds.specs.Union.{cells_over}
 use Rattle.bucket_bounds.specs.declared.bucket.Bucket.{Bucket}
 use Rattle.bucket_bounds.proofs.CellLaws.{IsWithin, own_values}
@@ -100,7 +100,7 @@ pub share_long : (sizes : List ℕ) (p : ℕ) (old new : List CostTable) → IsS
 share_long sizes p old new is = sym (length-map new (λ (t : CostTable). t.scope)) ∙ ap (λ (vss : List (List ℕ)). length vss) is.scopes ∙ length-map old (λ (t : CostTable). t.scope)
 
 -- parts of tables of the bucket of a variable
-module _ (sizes : List ℕ) (limit own : ℕ) (items parts : List CostTable) (is : AreParts sizes limit own items parts) where
+module _ (sizes : List ℕ) (limit own : ℕ) (items parts : List CostTable) (is : AreGroupsJoined sizes limit own items parts) where
   grouped : (P : CostTable → Type 0) → All P items → All (λ group. All P group) is.groups
   grouped P all = all_flat P is.groups (All-permutation P items (flat_map (λ group. group) is.groups) is.parted all)
 
@@ -143,7 +143,7 @@ module _ (sizes : List ℕ) (limit p room : ℕ) (bucket : Bucket) (is : IsMiniB
   abbrev large : List CostTable
   large = is.sent.kept.large
 
-  projections_are : All (IsBound sizes p) projections
+  projections_are : All (IsBoundTable sizes p) projections
   projections_are = projections_bound sizes p is.parts projections parts_are is.sent.each
 
   -- what holds of all projections holds of those without variables, of the large ones and of those that are sent
@@ -193,8 +193,8 @@ module _ (sizes : List ℕ) (limit p room : ℕ) (bucket : Bucket) (is : IsMiniB
       let parts = cost_is (with_own p best.0 value) own in
       (best.0, best.1, omega (arith, best.2, small, cost, least, only, fixed, sent, parts))
 
-  mini_made : (bounds : List CostTable) → bucket.came ≡ filter (λ t. has t.scope p) bounds → IsMade sizes p bounds bucket
-  mini_made bounds e = record { tables = is.tables; came = e; sent = (each_of (IsBound sizes p) projections_are).2; low = mini_low; exact = mini_exact }
+  mini_made : (bounds : List CostTable) → bucket.came ≡ filter (λ t. has t.scope p) bounds → IsBucketMade sizes p bounds bucket
+  mini_made bounds e = record { tables = is.tables; came = e; sent = (each_of (IsBoundTable sizes p) projections_are).2; low = mini_low; exact = mini_exact }
 
   -- a bound that was replaced was one for which there was not room
   pub mini_replaced : (left : ℕ) → cell_count bucket.sent + left ≡ room → IsReplacedDuly sizes left p bucket
@@ -210,10 +210,10 @@ module _ (sizes : List ℕ) (limit p room : ℕ) (bucket : Bucket) (is : IsMiniB
       omega (arith, full, low, e)
 
 -- the bounds that come to the bucket of p
-pub come_items : (sizes : List ℕ) (p : ℕ) (bounds : List CostTable) → All (IsBound sizes (p + 1)) bounds → All (IsItem sizes p) (filter (λ t. has t.scope p) bounds)
+pub come_items : (sizes : List ℕ) (p : ℕ) (bounds : List CostTable) → All (IsBoundTable sizes (p + 1)) bounds → All (IsItem sizes p) (filter (λ t. has t.scope p) bounds)
 come_items sizes p bounds all k d lt =
     let q : CostTable → Bool = λ t. has t.scope p in
-    let bound = All-filter q (IsBound sizes (p + 1)) bounds all k d lt in
+    let bound = All-filter q (IsBoundTable sizes (p + 1)) bounds all k d lt in
     (bound.0, record { names = filter_passes q bounds k d lt; last = λ j e within. (let low = bound.1 j e within in omega (arith, low)) })
 
 -- mini-buckets are made of their tables and of what came to them

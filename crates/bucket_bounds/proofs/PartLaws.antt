@@ -18,7 +18,7 @@ use Rattle.bucket_bounds.specs.Groups.{IsGroup, AreGroups, tables_of}
 use Rattle.bucket_bounds.specs.Made.{IsItem}
 use Rattle.bucket_bounds.specs.Parting.{AreTooWide, ArePartedDuly}
 use Rattle.bucket_bounds.specs.Joining.{AreUncapped}
-use Rattle.bucket_bounds.specs.Parts.{IsJoinOf, IsNarrow, AreParts}
+use Rattle.bucket_bounds.specs.Parts.{IsJoinOf, IsGroupNarrow, AreGroupsJoined}
 use Rattle.bucket_bounds.specs.declared.group.Group.{Group}
 use Rattle.bucket_bounds.proofs.GroupLaws.{all_had, scope_sizes}
 use Rattle.bucket_bounds.proofs.MiniLaws.{joined_over, joined_cost, share_long}
@@ -48,7 +48,7 @@ list_joins sizes (g ∷ gs) [] joins = absurd joins
 list_joins sizes (g ∷ gs) (t ∷ ts) joins = (joins.0, list_joins sizes gs ts joins.1)
 
 -- the joined table of a group has no more cells than the group
-narrow_one : (sizes : List ℕ) (limit : ℕ) (g : Group) (t : CostTable) → IsGroup sizes limit g → IsJoinOf sizes g.tables.items t → IsNarrow limit g.tables.items t
+narrow_one : (sizes : List ℕ) (limit : ℕ) (g : Group) (t : CostTable) → IsGroup sizes limit g → IsJoinOf sizes g.tables.items t → IsGroupNarrow limit g.tables.items t
 narrow_one sizes limit g t group join = elim group.few [
   | inl one ↦ inl one
   | inr small ↦
@@ -60,7 +60,7 @@ narrow_one sizes limit g t group join = elim group.few [
       inr (omega (arith, low, count, cells, small))
 ]
 
-narrow_all : (sizes : List ℕ) (limit : ℕ) (groups : List Group) (ts : List CostTable) → All (IsGroup sizes limit) groups → AllZip (λ g t. IsJoinOf sizes g.tables.items t) groups ts → AllZip (IsNarrow limit) (lists_of groups) ts
+narrow_all : (sizes : List ℕ) (limit : ℕ) (groups : List Group) (ts : List CostTable) → All (IsGroup sizes limit) groups → AllZip (λ g t. IsJoinOf sizes g.tables.items t) groups ts → AllZip (IsGroupNarrow limit) (lists_of groups) ts
 narrow_all sizes limit [] [] each joins = tt
 narrow_all sizes limit [] (t ∷ ts) each joins = absurd joins
 narrow_all sizes limit (g ∷ gs) [] each joins = absurd joins
@@ -107,7 +107,7 @@ module _ (sizes : List ℕ) (p : ℕ) (tables came none first items : List CostT
       }
 
       module _ (parts : List CostTable) (shared : IsShare sizes p joined parts) where
-        pub parts_are : AreParts sizes limit p (tables ++ came) parts
+        pub parts_are : AreGroupsJoined sizes limit p (tables ++ came) parts
         parts_are = record {
           groups = lists_of groups;
           parted = subst (λ (ts : List CostTable). IsPermutation (tables ++ came) ts) (sym (flat_lists groups)) whole;

@@ -15,7 +15,7 @@ use Rattle.cost_table.proofs.SliceLaws.{All-remove}
 use Rattle.util_project.specs.Projection.{IsProjection, size_in, cell_at_value}
 use Rattle.shared_costs.specs.Values.{AreValues}
 use Rattle.shared_costs.specs.Tables.{IsTableOver}
-use Rattle.bucket_bounds.specs.Made.{IsItem, IsBound}
+use Rattle.bucket_bounds.specs.Made.{IsItem, IsBoundTable}
 use Rattle.bucket_bounds.proofs.CellLaws.{IsWithin, below_without}
 
 one-add : (n : ℕ) → 1 + n ≡ suc n
@@ -108,7 +108,7 @@ module _ (sizes : List ℕ) (p : ℕ) (t less : CostTable) (item : IsItem sizes 
   apart : has_repeat t.scope ≡ false
   apart = (parts-of t.scope t.sizes t.cells item.0.whole).apart
 
-  pub projection_bound : IsBound sizes p less
+  pub projection_bound : IsBoundTable sizes p less
   projection_bound =
       let k = place_in t.scope p in
       let below = subst (λ (vs : List ℕ). All (λ v. v ≤ p) vs) (sym is.same_scope) (All-remove (λ v. v ≤ p) t.scope k item.1.last) in (
@@ -157,12 +157,12 @@ module _ (sizes : List ℕ) (p : ℕ) (t less : CostTable) (item : IsItem sizes 
         (best.0, omega (arith, best.1, size), sym (at best.0) ∙ best.2 ∙ cell)
 
 -- projections of several tables
-pub projections_bound : (sizes : List ℕ) (p : ℕ) (ts ls : List CostTable) → All (IsItem sizes p) ts → AllZip (λ t l. IsProjection t p l) ts ls → All (IsBound sizes p) ls
-projections_bound sizes p [] [] items are = All-nil (IsBound sizes p)
+pub projections_bound : (sizes : List ℕ) (p : ℕ) (ts ls : List CostTable) → All (IsItem sizes p) ts → AllZip (λ t l. IsProjection t p l) ts ls → All (IsBoundTable sizes p) ls
+projections_bound sizes p [] [] items are = All-nil (IsBoundTable sizes p)
 projections_bound sizes p [] (l ∷ ls) items are = absurd are
 projections_bound sizes p (t ∷ ts) [] items are = absurd are
 projections_bound sizes p (t ∷ ts) (l ∷ ls) items are =
-    All-cons (IsBound sizes p) l ls (projection_bound sizes p t l (All-head (IsItem sizes p) t ts items) are.0)
+    All-cons (IsBoundTable sizes p) l ls (projection_bound sizes p t l (All-head (IsItem sizes p) t ts items) are.0)
     (projections_bound sizes p ts ls (All-tail (IsItem sizes p) t ts items) are.1)
 
 pub projections_low : (sizes : List ℕ) (p : ℕ) (ts ls : List CostTable) (value : ℕ → ℕ) → All (IsItem sizes p) ts → AllZip (λ t l. IsProjection t p l) ts ls → AreValues sizes value → cost_with ls value ≤ cost_with ts value

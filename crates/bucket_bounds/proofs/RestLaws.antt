@@ -12,9 +12,9 @@ use Rattle.shared_costs.specs.Shared.{AreSharedCosts}
 use Rattle.shared_costs.specs.declared.shared.SharedCosts.{SharedCosts}
 use Rattle.shared_costs.specs.Tables.{depths_cost}
 use Rattle.bucket_bounds.specs.Rest.{deep_cost, IsRest}
-use Rattle.bucket_bounds.specs.Bounds.{bounds_at, fixed_at, bound_at, tables_in, bucket_of, AreBounds}
+use Rattle.bucket_bounds.specs.Bounds.{bounds_at, fixed_at, bound_at, tables_in, bucket_of, AreBucketBounds}
 use Rattle.bucket_bounds.specs.Exact.{IsUnparted, AreExact}
-use Rattle.bucket_bounds.specs.Made.{IsBound, IsMade, AreMade}
+use Rattle.bucket_bounds.specs.Made.{IsBoundTable, IsBucketMade, AreMade}
 use Rattle.bucket_bounds.specs.declared.bucket.Bucket.{Bucket}
 use Rattle.bucket_bounds.proofs.CellLaws.{cost_agrees}
 use Rattle.bucket_bounds.proofs.ChainLaws.{AreSent, sent_of_made, bounds_before, low_from, exact_from, made_drop}
@@ -50,10 +50,10 @@ module _ (sizes : List ℕ) (depths : List (List CostTable)) (buckets : List Buc
   long : length buckets ≡ length sizes
   long = sym (length-map buckets (λ (b : Bucket). b.tables)) ∙ ap length tables ∙ many
 
-  at : (p : ℕ) → p < length sizes → IsMade sizes p (bounds_at (p + 1) buckets) (bucket_of buckets p)
+  at : (p : ℕ) → p < length sizes → IsBucketMade sizes p (bounds_at (p + 1) buckets) (bucket_of buckets p)
   at p lt = (subst (λ (bs : List Bucket). AreMade sizes p bs) (drop_more buckets p no_bucket (omega (arith, lt, long))) (made_drop sizes 0 p p buckets (omega arith) made)).0
 
-  pub are_bounds : AreBounds sizes depths buckets
+  pub are_bounds : AreBucketBounds sizes depths buckets
   are_bounds = record {
     many = long;
     tables = tables;
@@ -62,19 +62,19 @@ module _ (sizes : List ℕ) (depths : List (List CostTable)) (buckets : List Buc
   }
 
 -- each bucket sends what it may, from some variable on
-sent_each : (sizes : List ℕ) (p : ℕ) (bs : List Bucket) → ((k : ℕ) → k < length bs → All (IsBound sizes (p + k)) (slice_index_or bs k no_bucket).sent) → AreSent sizes p bs
+sent_each : (sizes : List ℕ) (p : ℕ) (bs : List Bucket) → ((k : ℕ) → k < length bs → All (IsBoundTable sizes (p + k)) (slice_index_or bs k no_bucket).sent) → AreSent sizes p bs
 sent_each sizes p [] each = tt
 sent_each sizes p (b ∷ bs) each = (
-  subst (λ (n : ℕ). All (IsBound sizes n) b.sent) (omega arith) (each 0 (omega arith)),
-  sent_each sizes (p + 1) bs (λ k lt. subst (λ (n : ℕ). All (IsBound sizes n) (slice_index_or bs k no_bucket).sent) (omega arith) (each (suc k) (omega arith))),
+  subst (λ (n : ℕ). All (IsBoundTable sizes n) b.sent) (omega arith) (each 0 (omega arith)),
+  sent_each sizes (p + 1) bs (λ k lt. subst (λ (n : ℕ). All (IsBoundTable sizes n) (slice_index_or bs k no_bucket).sent) (omega arith) (each (suc k) (omega arith))),
 )
 
 -- the bounds of a depth cost the same at values that agree before it
-module _ (sizes : List ℕ) (depths : List (List CostTable)) (buckets : List Bucket) (bounds : AreBounds sizes depths buckets) where
+module _ (sizes : List ℕ) (depths : List (List CostTable)) (buckets : List Bucket) (bounds : AreBucketBounds sizes depths buckets) where
   sent_from : (p : ℕ) → AreSent sizes p (drop p buckets)
   sent_from p = sent_each sizes p (drop p buckets) (λ k lt.
       let within : p + k < length buckets = omega (arith, lt, length-drop p buckets) in
-      subst (λ (b : Bucket). All (IsBound sizes (p + k)) b.sent) (sym (get_or-drop p buckets k no_bucket)) (bounds.each (p + k) (omega (arith, within, bounds.many))).sent)
+      subst (λ (b : Bucket). All (IsBoundTable sizes (p + k)) b.sent) (sym (get_or-drop p buckets k no_bucket)) (bounds.each (p + k) (omega (arith, within, bounds.many))).sent)
 
   pub same_bound : (p : ℕ) (value other : ℕ → ℕ) → AgreeBelow p value other → bound_at p buckets other ≡ bound_at p buckets value
   same_bound p value other agree =
@@ -94,7 +94,7 @@ at_most_rest sizes buckets made p value least rest =
     omega (arith, low, same, behind, best.3)
 
 -- the bound of depth 0 is at most the scaled optimum
-pub first_bound : (p : Dcop) (shared : SharedCosts) (buckets : List Bucket) → AreSharedCosts p shared → AreBounds p.sizes shared.depths buckets → (value : ℕ → ℕ) (best : ℕ) → IsOptimum p best → bound_at 0 buckets value ≤ shared.scale * best
+pub first_bound : (p : Dcop) (shared : SharedCosts) (buckets : List Bucket) → AreSharedCosts p shared → AreBucketBounds p.sizes shared.depths buckets → (value : ℕ → ℕ) (best : ℕ) → IsOptimum p best → bound_at 0 buckets value ≤ shared.scale * best
 first_bound p shared buckets costs bounds value best optimum =
     let values = optimum.attained.0 in
     let other : ℕ → ℕ = λ v. slice_index values v in

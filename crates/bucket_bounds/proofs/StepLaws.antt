@@ -10,7 +10,7 @@ use Rattle.dcop_base.specs.Values.{cell_with, cost_with}
 use Rattle.shared_costs.specs.Tables.{AreDepths, depths_cost}
 use Rattle.bucket_bounds.specs.Bounds.{bounds_from, tables_in, kept_cells}
 use Rattle.bucket_bounds.specs.Joining.{AreUncapped}
-use Rattle.bucket_bounds.specs.Made.{IsItem, IsBound, AreMade}
+use Rattle.bucket_bounds.specs.Made.{IsItem, IsBoundTable, AreMade}
 use Rattle.bucket_bounds.specs.MiniBuckets.{IsMiniBucket, AreMiniBuckets}
 use Rattle.bucket_bounds.specs.Parting.{AreReplacedDuly}
 use Rattle.bucket_bounds.specs.declared.bucket.Bucket.{Bucket}
@@ -50,8 +50,8 @@ module _ (sizes : List ℕ) (depths : List (List CostTable)) (limit cells room p
   pub next_items : All (IsItem sizes p) tables
   next_items = subst (λ (ts : List CostTable). All (IsItem sizes p) ts) (sym here_is) (are.each p lt)
 
-  pub next_bounds_are : All (IsBound sizes (p + 1)) bounds
-  next_bounds_are = subst (λ (ts : List CostTable). All (IsBound sizes (p + 1)) ts) (sym chain.now) (bounds_before sizes (p + 1) buckets (sent_of_made sizes (p + 1) buckets behind_made))
+  pub next_bounds_are : All (IsBoundTable sizes (p + 1)) bounds
+  next_bounds_are = subst (λ (ts : List CostTable). All (IsBoundTable sizes (p + 1)) ts) (sym chain.now) (bounds_before sizes (p + 1) buckets (sent_of_made sizes (p + 1) buckets behind_made))
 
   deep : drop p depths ≡ tables ∷ drop (p + 1) depths
   deep = drop_more depths p tables (let many = are.many in omega (arith, lt, many)) ∙ ap (λ (ts : List CostTable). ts ∷ drop (p + 1) depths) (sym here)

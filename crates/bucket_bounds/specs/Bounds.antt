@@ -40,7 +40,7 @@ pub record IsBucket (sizes : List ℕ) (p : ℕ) (bounds : List CostTable) (buck
   pub sent : All (λ t. IsTableOver sizes t × All (λ v. v < p) t.scope) bucket.sent
 
 -- a bucket for each variable, with the tables of these depths; the bounds of each depth sum to at most what the tables of that depth and more sum to
-pub record AreBounds (sizes : List ℕ) (depths : List (List CostTable)) (buckets : List Bucket) : Type 0 where
+pub record AreBucketBounds (sizes : List ℕ) (depths : List (List CostTable)) (buckets : List Bucket) : Type 0 where
   pub many : length buckets ≡ length sizes
   pub tables : tables_in buckets ≡ depths
   pub each : (p : ℕ) → p < length sizes → IsBucket sizes p (bounds_at (p + 1) buckets) (bucket_of buckets p)

@@ -24,8 +24,8 @@ pub record IsGroupOf (t : CostTable) (g : Group) : Type 0 where
   pub tables : g.tables.items ≡ t ∷ []
 
 -- a group is within the limit together with a scope
-abbrev pub Fits : List ℕ → List ℕ → ℕ → Group → Type 0
-Fits sizes scope limit g = g.cells * times_more sizes g.vars scope ≤ limit
+abbrev pub FitsLimit : List ℕ → List ℕ → ℕ → Group → Type 0
+FitsLimit sizes scope limit g = g.cells * times_more sizes g.vars scope ≤ limit
 
 -- a group to which a table was added
 pub record AddsTo (sizes : List ℕ) (old : Group) (t : CostTable) (new : Group) : Type 0 where

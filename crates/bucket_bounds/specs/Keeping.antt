@@ -3,12 +3,12 @@ use Rattle.std.specs.Prelude.{◌≡◌, ◌+◌, ◌-◌, ◌<◌, ◌≤◌, �
 use Rattle.dcop_base.specs.Limits.{count_limit}
 use Rattle.dcop_base.specs.Table.{CostTable}
 use Rattle.dcop_base.specs.Faults.{cell_count}
-use Rattle.bucket_bounds.specs.Kept.{least, AreKept}
+use Rattle.bucket_bounds.specs.Kept.{least, AreProjectionsKept}
 use Rattle.bucket_bounds.specs.declared.keeping.Kept.{Kept}
 
 -- what was kept of these tables, and the room that is left
 pub record IsKeptOf (room : ℕ) (ts : List CostTable) (kept : Kept) : Type 0 where
-  pub are : AreKept room ts kept.sent.items kept.fixed kept.replaced
+  pub are : AreProjectionsKept room ts kept.sent.items kept.fixed kept.replaced
   pub left : cell_count kept.sent.items + kept.room ≡ room
 
 -- a table was kept unchanged
@@ -28,5 +28,5 @@ pub record IsKeptLeast (old : Kept) (t : CostTable) (new : Kept) : Type 0 where
   pub why : ((t.scope ≡ []) × (new.replaced ≡ old.replaced)) ⊎ ((1 ≤ length t.scope) × (old.room < length t.cells) × (new.replaced ≡ min (old.replaced + 1) count_limit))
 
 -- a table was kept, unchanged or by its least cell
-abbrev pub IsKept : Kept → CostTable → Kept → Type 0
-IsKept old t new = IsKeptWhole old t new ⊎ IsKeptLeast old t new
+abbrev pub IsTableKept : Kept → CostTable → Kept → Type 0
+IsTableKept old t new = IsKeptWhole old t new ⊎ IsKeptLeast old t new

@@ -16,7 +16,7 @@ abbrev pub least_cost : List CostTable → ℕ
 least_cost ts = sum_by (λ t. least t.cells) ts
 
 -- what is sent of projections, with room for this many cells: those with variables unchanged, except the largest, none of which fits; the least cells of these are added up, with the only cells of those without variables
-pub record AreKept (room : ℕ) (projections sent : List CostTable) (fixed replaced : ℕ) : Type 0 where
+pub record AreProjectionsKept (room : ℕ) (projections sent : List CostTable) (fixed replaced : ℕ) : Type 0 where
   pub closed : List CostTable
   pub large : List CostTable
   pub each : IsPermutation projections (closed ++ large ++ sent)

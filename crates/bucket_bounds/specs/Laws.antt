@@ -5,7 +5,7 @@ use Rattle.dcop_optimum.specs.Optimum.{IsOptimum}
 use Rattle.shared_costs.specs.Shared.{AreSharedCosts}
 use Rattle.shared_costs.specs.declared.shared.SharedCosts.{SharedCosts}
 use Rattle.bucket_bounds.specs.Rest.{IsRest}
-use Rattle.bucket_bounds.specs.Bounds.{bound_at, tables_in, AreBounds}
+use Rattle.bucket_bounds.specs.Bounds.{bound_at, tables_in, AreBucketBounds}
 use Rattle.bucket_bounds.specs.Exact.{AreExactUnparted}
 use Rattle.bucket_bounds.specs.Made.{AreMade}
 use Rattle.bucket_bounds.specs.MiniBuckets.{AreMiniBuckets}
@@ -27,7 +27,7 @@ UnpartedMiniBucketsAreExact = (sizes : List ℕ) (limit cells : ℕ) (buckets : 
 
 -- the bound of depth 0 is at most the scaled optimum
 abbrev pub FirstBoundIsAtMostTheOptimum : Type 0
-FirstBoundIsAtMostTheOptimum = (p : Dcop) (shared : SharedCosts) (buckets : List Bucket) → AreSharedCosts p shared → AreBounds p.sizes shared.depths buckets
+FirstBoundIsAtMostTheOptimum = (p : Dcop) (shared : SharedCosts) (buckets : List Bucket) → AreSharedCosts p shared → AreBucketBounds p.sizes shared.depths buckets
     → (value : ℕ → ℕ) (best : ℕ) → IsOptimum p best → bound_at 0 buckets value ≤ shared.scale * best
 
 -- the bound of depth 0 of any mini-buckets of the shared costs is at most the scaled optimum

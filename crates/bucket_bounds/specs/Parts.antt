@@ -17,14 +17,14 @@ pub record IsJoinOf (sizes : List ℕ) (group : List CostTable) (joined : CostTa
   pub cells : (value : ℕ → ℕ) → AreValues sizes value → cell_with joined value ≡ cost_with group value
 
 -- a group of one table, or one whose joined table has at most `limit` cells
-abbrev pub IsNarrow : ℕ → List CostTable → CostTable → Type 0
-IsNarrow limit group joined = (length group ≡ 1) ⊎ (length joined.cells ≤ limit)
+abbrev pub IsGroupNarrow : ℕ → List CostTable → CostTable → Type 0
+IsGroupNarrow limit group joined = (length group ≡ 1) ⊎ (length joined.cells ≤ limit)
 
 -- tables that were parted into groups, each of one table or not too wide, and joined group by group, with variable p shared among the joined tables
-pub record AreParts (sizes : List ℕ) (limit p : ℕ) (tables parts : List CostTable) : Type 0 where
+pub record AreGroupsJoined (sizes : List ℕ) (limit p : ℕ) (tables parts : List CostTable) : Type 0 where
   pub groups : List (List CostTable)
   pub parted : IsPermutation tables (flat_map (λ group. group) groups)
   pub joined : List CostTable
   pub joins : AllZip (IsJoinOf sizes) groups joined
-  pub narrow : AllZip (IsNarrow limit) groups joined
+  pub narrow : AllZip (IsGroupNarrow limit) groups joined
   pub shared : IsShare sizes p joined parts

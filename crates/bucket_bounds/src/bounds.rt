@@ -6,10 +6,10 @@ ghost use Rattle.dcop_base.specs.Limits.{joined_limit, variable_limit};
 ghost use Rattle.dcop_base.specs.Faults.{cell_count};
 ghost use Rattle.dcop_base.specs.Table.{has};
 ghost use Rattle.shared_costs.specs.Tables.{AreDepths};
-ghost use Rattle.bucket_bounds.specs.Bounds.{AreBounds, kept_cells};
+ghost use Rattle.bucket_bounds.specs.Bounds.{AreBucketBounds, kept_cells};
 ghost use Rattle.bucket_bounds.specs.Exact.{AreExactUnparted};
 ghost use Rattle.bucket_bounds.specs.Joining.{AreUncapped};
-ghost use Rattle.bucket_bounds.specs.Made.{IsItem, IsBound, AreMade};
+ghost use Rattle.bucket_bounds.specs.Made.{IsItem, IsBoundTable, AreMade};
 ghost use Rattle.bucket_bounds.specs.MiniBuckets.{IsMiniBucket, AreMiniBuckets};
 ghost use Rattle.bucket_bounds.specs.Parting.{IsPartedDuly, AreReplacedDuly};
 
@@ -35,7 +35,7 @@ pub fn bounds_of(
     requires few { length sizes.now ≤ variable_limit }
     requires depths { AreDepths sizes.now depths.now }
     requires cells { length sizes.now ≤ cells }
-    ensures bounds { IfOk result (AreBounds sizes.now depths.now) }
+    ensures bounds { IfOk result (AreBucketBounds sizes.now depths.now) }
     ensures kept { IfOk result (λ buckets. kept_cells buckets ≤ cells) }
     ensures buckets { IfOk result
         (AreMiniBuckets sizes.now (min limit joined_limit) cells 0) }
@@ -75,7 +75,7 @@ fn next_bucket(
 ) -> Result<Made, NoMemory>
     requires var { var < length sizes.now }
     requires tables { All (IsItem sizes.now var) tables.now }
-    requires bounds { All (IsBound sizes.now (var + 1)) bounds.now }
+    requires bounds { All (IsBoundTable sizes.now (var + 1)) bounds.now }
     requires capped { AreUncapped sizes.now
         (tables.now ++ filter (λ t. has t.scope var) bounds.now) }
     requires widest { widest ≤ joined_limit }

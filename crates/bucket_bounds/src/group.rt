@@ -4,7 +4,7 @@ ghost use Rattle.std.specs.Prelude.{◌≡◌, ℕ, ◌*◌, ◌<◌, ◌≤◌,
 ghost use Rattle.std.specs.List.{All};
 ghost use Rattle.dcop_base.specs.Limits.{joined_limit};
 ghost use Rattle.shared_costs.specs.Tables.{IsTableOver};
-ghost use Rattle.bucket_bounds.specs.Groups.{IsGroupOf, AddsTo, AreGroups, Fits};
+ghost use Rattle.bucket_bounds.specs.Groups.{IsGroupOf, AddsTo, AreGroups, FitsLimit};
 ghost use Rattle.bucket_bounds.specs.Parting.{IsTooWideFor, ArePartedDuly};
 
 use crate::union::{add_vars, cells_with};
@@ -54,7 +54,7 @@ pub(crate) fn groups_of(
 fn place_of(sizes: &[u16], groups: &[Group], scope: &[VarId], limit: u64) -> Option<usize>
     requires limit { limit ≤ joined_limit }
     ensures fits { IfSome result (λ k. (k < length groups.now)
-        × ((none : Group) → Fits sizes.now scope.now limit (slice_index_or groups.now k none))) }
+        × ((none : Group) → FitsLimit sizes.now scope.now limit (slice_index_or groups.now k none))) }
     ensures full { IfNone result (All (IsTooWideFor sizes.now scope.now limit) groups.now) }
 {
     for (place, group) in groups.iter().enumerate() {

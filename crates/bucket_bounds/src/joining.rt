@@ -7,7 +7,7 @@ ghost use Rattle.dcop_base.specs.Table.{IsTable};
 ghost use Rattle.util_join.specs.Join.{LiesIn};
 ghost use Rattle.bucket_bounds.specs.Groups.{IsGroup};
 ghost use Rattle.bucket_bounds.specs.Union.{IsTurned};
-ghost use Rattle.bucket_bounds.specs.Joining.{AreUncapped, HasGained, IsZeroFor};
+ghost use Rattle.bucket_bounds.specs.Joining.{AreUncapped, HasGainedCosts, IsZeroFor};
 ghost use Rattle.bucket_bounds.specs.Parts.{IsJoinOf};
 
 use crate::group::Group;
@@ -90,7 +90,7 @@ fn with_first(alloc: Global, first: VarId, others: &[VarId]) -> Result<VarList, 
 /// Adds these tables.
 fn add_all(joined: &mut Joined, tables: &[Table])
     requires { All (LiesIn joined.old.scope joined.old.sizes) tables.now }
-    ensures { HasGained tables.now joined.old joined.new }
+    ensures { HasGainedCosts tables.now joined.old joined.new }
 {
     for table in tables {
         joined.add(table);

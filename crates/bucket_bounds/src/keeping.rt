@@ -3,7 +3,7 @@
 ghost use Rattle.std.specs.Prelude.{◌≡◌, min, OnOk, IfOk};
 ghost use Rattle.std.specs.List.{fold};
 ghost use Rattle.bucket_bounds.specs.ByCells.{AreRising};
-ghost use Rattle.bucket_bounds.specs.Keeping.{IsKept, IsKeptOf};
+ghost use Rattle.bucket_bounds.specs.Keeping.{IsTableKept, IsKeptOf};
 
 use dcop_base::{NoMemory, Table};
 use std::alloc::Global;
@@ -41,7 +41,7 @@ pub(crate) fn kept_of(alloc: Global, projections: &[Table], room: u64) -> Result
 
 /// Keeps a projection or replaces it by its least cell.
 fn keep(kept: &mut Kept, table: &Table) -> Result<(), NoMemory>
-    ensures { OnOk result (IsKept kept.old table.now kept.new) }
+    ensures { OnOk result (IsTableKept kept.old table.now kept.new) }
 {
     let least = least_of(table.cells.as_slice());
     if table.scope.as_slice().is_empty() {

@@ -9,7 +9,7 @@ ghost use Rattle.bucket_bounds.specs.Made.{IsItem};
 ghost use Rattle.bucket_bounds.specs.MiniBuckets.{IsMiniBucket, IsSentOf};
 ghost use Rattle.bucket_bounds.specs.Parting.{AreTooWide, IsPartedDuly};
 ghost use Rattle.bucket_bounds.specs.Joining.{AreUncapped};
-ghost use Rattle.bucket_bounds.specs.Parts.{AreParts};
+ghost use Rattle.bucket_bounds.specs.Parts.{AreGroupsJoined};
 
 use crate::bucket::Bucket;
 use crate::by_cells::put_by_cells;
@@ -82,7 +82,7 @@ fn parts_of(
     requires capped { AreUncapped sizes.now (tables.now ++ came.now) }
     requires limit { limit ≤ joined_limit }
     ensures parts { IfOk result
-        (λ parts. AreParts sizes.now limit var (tables.now ++ came.now) parts.items) }
+        (λ parts. AreGroupsJoined sizes.now limit var (tables.now ++ came.now) parts.items) }
     ensures parted { IfOk result
         (λ parts. 2 ≤ length parts.items → AreTooWide sizes.now limit (tables.now ++ came.now)) }
 {

@@ -12,7 +12,7 @@ use Rattle.certificate_text.specs.declared.certificate.Util.{Util}
 use Rattle.certificate_text.specs.Fits.{FitsTables, FitsUtil}
 use Rattle.minimised_problem.specs.Told.{told}
 use Rattle.certificate_check.specs.Cells.{children_told}
-use Rattle.certificate_check.specs.Odometer.{FitTogether, AreApart}
+use Rattle.certificate_check.specs.Odometer.{FitTogether, NamesNoneItself}
 use Rattle.certificate_check.specs.Differences.{table_difference}
 use Rattle.certificate_check.proofs.ToldLaws.{told_all, told_names}
 use Rattle.certificate_check.proofs.PartLaws.{child_below}
@@ -23,7 +23,7 @@ told_fits sizes utils v fits lt = let one = fits.one v lt in told_all (FitsUtil 
 pub told_var : (sizes : List ℕ) (utils : List Util) (v : ℕ) → FitsTables sizes utils → v < length sizes → (told utils v).var ≡ v
 told_var sizes utils v fits lt = let one = fits.one v lt in told_names utils v (omega arith)
 
-pub fit_told : (p : Dcop) (paths : List (List ℕ)) (utils : List Util) (i : ℕ) → IsProblem p → IsPseudotree p paths → FitsTables p.sizes utils → AreApart p utils → i < length p.sizes
+pub fit_told : (p : Dcop) (paths : List (List ℕ)) (utils : List Util) (i : ℕ) → IsProblem p → IsPseudotree p paths → FitsTables p.sizes utils → NamesNoneItself p utils → i < length p.sizes
     → FitTogether p.sizes (tables_on_path p paths i) (children_told paths utils i) (told utils i)
 fit_told p paths utils i problem pseudo fits apart lt = record {
   own_fit = All-filter (is_on_path paths i) (IsTableOf p.sizes) p.tables problem.tables;

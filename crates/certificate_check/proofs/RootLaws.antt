@@ -22,7 +22,7 @@ use Rattle.certificate_text.specs.declared.certificate.Util.{Util}
 use Rattle.certificate_text.specs.declared.verdict.Differs.TheVariants.{Scope}
 use Rattle.certificate_text.specs.Fits.{FitsUtil}
 use Rattle.minimised_problem.specs.Told.{told, variables}
-use Rattle.certificate_check.specs.Odometer.{AreApart}
+use Rattle.certificate_check.specs.Odometer.{NamesNoneItself}
 use Rattle.certificate_check.specs.Differences.{first_of, scope_difference}
 use Rattle.certificate_check.proofs.FirstLaws.{none_at}
 use Rattle.certificate_check.proofs.CellLaws.{sizes_at, scope_within}
@@ -80,7 +80,7 @@ pub same_scope : (p : Dcop) (paths : List (List ℕ)) (utils : List Util) (i : �
 same_scope p paths utils i e = cond-true (bytes_eq (told utils i).scope (separator_of p paths i)) None (Some (Scope i)) ((bytes_eq-Decides (told utils i).scope (separator_of p paths i)).1 e)
 
 -- so no scope names its own variable
-pub apart_from : (p : Dcop) (paths : List (List ℕ)) (utils : List Util) → IsPseudotree p paths → first_of (scope_difference p paths utils) (variables p) ≡ None → AreApart p utils
+pub apart_from : (p : Dcop) (paths : List (List ℕ)) (utils : List Util) → IsPseudotree p paths → first_of (scope_difference p paths utils) (variables p) ≡ None → NamesNoneItself p utils
 apart_from p paths utils pseudo none i lt =
     false_from_ne_true (has (told utils i).scope i) (λ h.
     let named : has (separator_of p paths i) i ≡ true =

@@ -33,7 +33,7 @@ use Rattle.minimised_problem.specs.Turns.{turn_at, turn_by}
 use Rattle.certificate_check.specs.Cells.{HaveOneEach}
 use Rattle.certificate_check.specs.Cuts.{in_turn, scopes_in_turn, cells_in_turn}
 use Rattle.certificate_check.specs.Differences.{first_of, scope_difference, cells_difference}
-use Rattle.certificate_check.specs.Odometer.{AreApart}
+use Rattle.certificate_check.specs.Odometer.{NamesNoneItself}
 use Rattle.certificate_check.proofs.CellLaws.{sizes_at, scope_within}
 use Rattle.certificate_check.proofs.RootLaws.{apart_from}
 use Rattle.certificate_check.proofs.VerdictLaws.{parents_fit_in}
@@ -187,7 +187,7 @@ module _ (p : Dcop) (cut : List ℕ) (turns : List Turn) (number : ℕ) (t : Tur
       (subst (λ (x : Turn). FitsTables (ones_at cut p.sizes) x.tables) (sym is.turn_is) (turn_fits p cut turns fits number lt)))
 
   -- where no scope differs, no table names its own variable
-  pub apart_in : (tree : RootedTree) → IsPseudotreeOf p tree → scopes_in_turn p tree.paths cut turns number ≡ None → AreApart q utils
+  pub apart_in : (tree : RootedTree) → IsPseudotreeOf p tree → scopes_in_turn p tree.paths cut turns number ≡ None → NamesNoneItself q utils
   apart_in tree of none =
       apart_from q tree.paths utils (tree_in tree of).pseudotree
       (none_in number (first_of (scope_difference q tree.paths utils) (variables q)) (told_scopes tree.paths _ _ refl refl ∙ none))

@@ -33,5 +33,5 @@ pub record FitTogether (sizes : List ℕ) (own : List CostTable) (children : Lis
   pub apart : has u.scope u.var ≡ false
 
 -- no variable's table names the variable itself in its scope
-abbrev pub AreApart : Dcop → List Util → Type 0
-AreApart p utils = (i : ℕ) → i < length p.sizes → has (told utils i).scope i ≡ false
+abbrev pub NamesNoneItself : Dcop → List Util → Type 0
+NamesNoneItself p utils = (i : ℕ) → i < length p.sizes → has (told utils i).scope i ≡ false

@@ -34,8 +34,8 @@ IsDifferenceIn f r utils differs =
     × (difference_in f paths utils r ≡ differs)
 
 -- the first difference of a report: in the tree, or otherwise after it
-abbrev pub IsFirstDifference : TextFile → Report → List Util → Differs → Type 0
-IsFirstDifference f r utils differs =
+abbrev pub IsReportDifference : TextFile → Report → List Util → Differs → Type 0
+IsReportDifference f r utils differs =
     IsTreeDifference (problem_solved f) (parents_told (problem_solved f) utils) differs
     ⊎ IsDifferenceIn f r utils (Some differs)
 
@@ -43,7 +43,7 @@ IsFirstDifference f r utils differs =
 -- otherwise
 abbrev pub IsTablesVerdict : TextFile → Report → List Util → Verdict → Type 0
 IsTablesVerdict f r utils (Yes cost error) = IsDifferenceIn f r utils None × (cost ≡ r.cost) × (error ≡ gap_of f.goal r)
-IsTablesVerdict f r utils (No differs) = IsFirstDifference f r utils differs
+IsTablesVerdict f r utils (No differs) = IsReportDifference f r utils differs
 
 -- the parents of the first turn are those of a pseudotree, and the first difference after those of
 -- the tree is this one, or there is none

@@ -4,7 +4,7 @@ ghost use Rattle.std.specs.Prelude.{◌≡◌, ◌<◌, length, map, IfOk};
 ghost use Rattle.pseudotree.specs.Pseudotree.{IsPseudotreeOf};
 ghost use Rattle.certificate_text.specs.Fits.{FitsTables};
 ghost use Rattle.minimised_problem.specs.Told.{told, variables};
-ghost use Rattle.certificate_check.specs.Odometer.{IsAtCell, FitTogether, AreApart};
+ghost use Rattle.certificate_check.specs.Odometer.{IsAtCell, FitTogether, NamesNoneItself};
 ghost use Rattle.certificate_check.specs.Differences.{first_of, cell_difference, table_difference};
 ghost use Rattle.certificate_check.specs.Differences.{cells_difference};
 
@@ -26,7 +26,7 @@ pub(crate) fn cells_difference(
 ) -> Result<Option<Differs>, NoMemory>
     requires tree { IsPseudotreeOf problem.now tree.now }
     requires fits { FitsTables problem.now.sizes utils.now }
-    requires apart { AreApart problem.now utils.now }
+    requires apart { NamesNoneItself problem.now utils.now }
     ensures { IfOk result (λ differs. differs ≡ first_of
         (cells_difference problem.now tree.now.paths utils.now) (variables problem.now)) }
 {
@@ -49,7 +49,7 @@ fn variable_difference(
 ) -> Result<Option<Differs>, NoMemory>
     requires tree { IsPseudotreeOf problem.now tree.now }
     requires fits { FitsTables problem.now.sizes utils.now }
-    requires apart { AreApart problem.now utils.now }
+    requires apart { NamesNoneItself problem.now utils.now }
     requires within { var < length problem.now.sizes }
     ensures { IfOk result (λ differs.
         differs ≡ cells_difference problem.now tree.now.paths utils.now var) }

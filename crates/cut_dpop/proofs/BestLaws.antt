@@ -18,7 +18,7 @@ use Rattle.run_laws.specs.Turns.{turn_count}
 use Rattle.run_laws.specs.Kept.{IsCutAnswer}
 use Rattle.run_laws.proofs.TurnLaws.{stands_at, choice_is}
 use Rattle.cut_dpop.specs.declared.turn.Played.{Played}
-use Rattle.cut_dpop.specs.Played.{turn_of, IsPlayed, IsBestOf}
+use Rattle.cut_dpop.specs.Played.{turn_of, IsTurnPlayed, IsBestOf}
 
 -- each cut has a turn
 pub some-turn : (p : Dcop) (cut : List ℕ) → IsProblem p → AreCut p cut → 1 ≤ turn_count p cut
@@ -32,14 +32,14 @@ turn-within p cut number lt =
 
 module _ (p : Dcop) (paths : List (List ℕ)) (cut : List ℕ) where
   -- what a turn costs at best
-  pub played-cost : (k : ℕ) (b : Played) → IsPlayed p paths cut k b → IsOptimum (slice_of p cut (turn_of p cut k)) b.cost
+  pub played-cost : (k : ℕ) (b : Played) → IsTurnPlayed p paths cut k b → IsOptimum (slice_of p cut (turn_of p cut k)) b.cost
   played-cost k b h = subst (IsOptimum (slice_of p cut (turn_of p cut k))) (sym h.cost_is) h.first.optimal
 
-  cost-same : (k i c : ℕ) (b : Played) → IsPlayed p paths cut k b → i ≡ k → IsOptimum (slice_of p cut (turn_of p cut i)) c → b.cost ≡ c
+  cost-same : (k i c : ℕ) (b : Played) → IsTurnPlayed p paths cut k b → i ≡ k → IsOptimum (slice_of p cut (turn_of p cut i)) c → b.cost ≡ c
   cost-same k i c b h e at =
       optimum_same (slice_of p cut (turn_of p cut k)) b.cost c (played-cost k b h) (subst (λ (n : ℕ). IsOptimum (slice_of p cut (turn_of p cut n)) c) e at)
 
-  pub best-first : (b : Played) → IsPlayed p paths cut 0 b → IsBestOf p paths cut 1 b
+  pub best-first : (b : Played) → IsTurnPlayed p paths cut 0 b → IsBestOf p paths cut 1 b
   best-first b h = record {
     number = 0;
     within = omega arith;
@@ -49,7 +49,7 @@ module _ (p : Dcop) (paths : List (List ℕ)) (cut : List ℕ) where
   }
 
   -- a cheaper turn is taken
-  pub best-take : (k : ℕ) (b n : Played) → IsBestOf p paths cut k b → IsPlayed p paths cut k n → n.cost < b.cost → IsBestOf p paths cut (k + 1) n
+  pub best-take : (k : ℕ) (b n : Played) → IsBestOf p paths cut k b → IsTurnPlayed p paths cut k n → n.cost < b.cost → IsBestOf p paths cut (k + 1) n
   best-take k b n best h less = record {
     number = k;
     within = omega arith;
@@ -62,7 +62,7 @@ module _ (p : Dcop) (paths : List (List ℕ)) (cut : List ℕ) where
   }
 
   -- another one is not
-  pub best-keep : (k : ℕ) (b n : Played) → IsBestOf p paths cut k b → IsPlayed p paths cut k n → b.cost ≤ n.cost → IsBestOf p paths cut (k + 1) b
+  pub best-keep : (k : ℕ) (b n : Played) → IsBestOf p paths cut k b → IsTurnPlayed p paths cut k n → b.cost ≤ n.cost → IsBestOf p paths cut (k + 1) b
   best-keep k b n best h le =
       let within = best.within in record {
         number = best.number;

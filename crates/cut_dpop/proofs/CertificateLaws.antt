@@ -34,7 +34,7 @@ use Rattle.minimised_problem.specs.Turns.{turn_at, turn_by, turn_scopes, turn_ce
 use Rattle.minimised_problem.specs.Utils.{IsUtilOf, AreUtilsOf}
 use Rattle.minimised_problem.proofs.UtilLaws.{tables_fit, parents_are, tables_show_on}
 use Rattle.cut_dpop.specs.Played.{turn_of}
-use Rattle.cut_dpop.specs.Kept.{IsTurn, AreTurns}
+use Rattle.cut_dpop.specs.Kept.{IsCutTurn, AreCutTurns}
 use Rattle.cut_dpop.specs.Certificate.{KeptTablesCertify}
 use Rattle.cut_dpop.proofs.BestLaws.{some-turn}
 
@@ -74,12 +74,12 @@ first-is : (turns : List Turn) → first_tables turns ≡ (turn_at turns 0).tabl
 first-is [] = refl
 first-is (turn ∷ turns) = refl
 
-module _ (p : Dcop) (paths : List (List ℕ)) (cut : List ℕ) (turns : List Turn) (problem : IsProblem p) (pseudo : IsPseudotree p paths) (may : AreCut p cut) (are : AreTurns p paths cut (turn_count p cut) turns) where
+module _ (p : Dcop) (paths : List (List ℕ)) (cut : List ℕ) (turns : List Turn) (problem : IsProblem p) (pseudo : IsPseudotree p paths) (may : AreCut p cut) (are : AreCutTurns p paths cut (turn_count p cut) turns) where
   pub count : length turns ≡ turn_count p cut
-  count = zip-long (IsTurn p paths cut) 0 (turn_count p cut) turns are
+  count = zip-long (IsCutTurn p paths cut) 0 (turn_count p cut) turns are
 
-  turn-is : (k : ℕ) (d : Turn) → k < turn_count p cut → IsTurn p paths cut k (get_or turns k d)
-  turn-is k d lt = subst (λ (i : ℕ). IsTurn p paths cut i (get_or turns k d)) (let e : 0 + k ≡ k = omega arith in e) (zip-at (IsTurn p paths cut) 0 (turn_count p cut) turns k d are lt)
+  turn-is : (k : ℕ) (d : Turn) → k < turn_count p cut → IsCutTurn p paths cut k (get_or turns k d)
+  turn-is k d lt = subst (λ (i : ℕ). IsCutTurn p paths cut i (get_or turns k d)) (let e : 0 + k ≡ k = omega arith in e) (zip-at (IsCutTurn p paths cut) 0 (turn_count p cut) turns k d are lt)
 
   on-slice : (values : List ℕ) → IsPseudotree (slice_of p cut values) paths
   on-slice values = ((slices_keep_trees p cut values).pseudotree paths).0 pseudo

@@ -18,12 +18,12 @@ use Rattle.run_laws.specs.CutSet.{IsCutSet, CutSetsAreOne, CutSetsMakeNarrow}
 use Rattle.cut_dpop.specs.declared.fault.CutFault.{CutFault}
 use Rattle.cut_dpop.specs.declared.fault.CutFault.TheVariants.{TooMany, Total, NoMemory}
 use Rattle.cut_dpop.specs.declared.turn.Played.{Played}
-use Rattle.cut_dpop.specs.Start.{IsNarrowInTurns, turn_deliveries}
+use Rattle.cut_dpop.specs.Start.{IsNarrowForSlices, turn_deliveries}
 use Rattle.certificate_text.specs.declared.certificate.Turn.{Turn}
-use Rattle.cut_dpop.specs.Kept.{AreKept}
+use Rattle.cut_dpop.specs.Kept.{AreTurnsKept}
 use Rattle.cut_dpop.specs.Played.{IsBestOf}
-use Rattle.cut_dpop.specs.Refusal.{cells_sent, refusal, IsRefusal, AreAllowed}
-use Rattle.cut_dpop.specs.End.{IsCutEnd, IsRefused}
+use Rattle.cut_dpop.specs.Refusal.{cells_sent, refusal, IsCutRefusal, AreAllowed}
+use Rattle.cut_dpop.specs.End.{IsCutEnd, IsCutRefused}
 use Rattle.cut_dpop.proofs.BestLaws.{best-answer}
 
 -- a cut that is not refused has few turns
@@ -44,8 +44,8 @@ may-cut p paths limit cut tree law problem is same few h =
 pub copy-serves : (p : Dcop) (tree copy : RootedTree) → IsTreeFor p tree → IsPseudotreeOf p copy → copy.paths ≡ tree.paths → IsTreeFor p copy
 copy-serves p tree copy fits is same = record { pseudotree = is; linked = subst (IsLinked p) (sym same) fits.linked }
 
-pub copy-narrow : (p : Dcop) (tree copy : RootedTree) (limit : ℕ) (cut : List ℕ) → CutSetsMakeNarrow → IsCutSet p tree.paths limit cut → limit ≤ joined_limit → copy.paths ≡ tree.paths → IsNarrowInTurns p copy.paths cut
-copy-narrow p tree copy limit cut law h most same = subst (λ (ps : List (List ℕ)). IsNarrowInTurns p ps cut) (sym same) (λ values. (law p tree.paths limit cut h).narrow values most)
+pub copy-narrow : (p : Dcop) (tree copy : RootedTree) (limit : ℕ) (cut : List ℕ) → CutSetsMakeNarrow → IsCutSet p tree.paths limit cut → limit ≤ joined_limit → copy.paths ≡ tree.paths → IsNarrowForSlices p copy.paths cut
+copy-narrow p tree copy limit cut law h most same = subst (λ (ps : List (List ℕ)). IsNarrowForSlices p ps cut) (sym same) (λ values. (law p tree.paths limit cut h).narrow values most)
 
 -- so many messages are a number of 64 bits
 pub few-messages : (p : Dcop) (turns deliveries : ℕ) → IsProblem p → turns ≤ turn_limit → deliveries ≡ turn_deliveries p → turns * deliveries ≤ 18446744073709551615
@@ -57,7 +57,7 @@ few-messages p turns deliveries problem few e =
 
 -- the best of all turns is the end
 pub cut-end : (p : Dcop) (paths other : List (List ℕ)) (limit : ℕ) (keep : Bool) (cut : List ℕ) (turns : ℕ) (best : Played) (tables : List Turn) → IsCutSet p paths limit cut → AreAllowed p paths cut keep turns → other ≡ paths
-    → IsBestOf p other cut turns best → AreKept keep p other cut turns tables
+    → IsBestOf p other cut turns best → AreTurnsKept keep p other cut turns tables
     → IsCutEnd p paths limit keep (record { cost = best.cost; values = best.values; cut = cut; turns = turns; deliveries = turns * best.deliveries; tables = tables })
 cut-end p paths other limit keep cut turns best tables h allowed same is kept =
     let at : IsBestOf p paths cut (turn_count p cut) best = subst (λ (n : ℕ). IsBestOf p paths cut n best) allowed.1 (subst (λ (ps : List (List ℕ)). IsBestOf p ps cut turns best) same is) in record {
@@ -66,18 +66,18 @@ cut-end p paths other limit keep cut turns best tables h allowed same is kept =
       turns = allowed.1;
       deliveries = ap (λ (n : ℕ). turns * n) at.played.deliveries ∙ ap (λ (n : ℕ). n * turn_deliveries p) allowed.1;
       answer = best-answer p paths cut best at;
-      tables = subst (λ (n : ℕ). AreKept keep p paths cut n tables) allowed.1 (subst (λ (ps : List (List ℕ)). AreKept keep p ps cut turns tables) same kept);
+      tables = subst (λ (n : ℕ). AreTurnsKept keep p paths cut n tables) allowed.1 (subst (λ (ps : List (List ℕ)). AreTurnsKept keep p ps cut turns tables) same kept);
     }
 
 -- what refuses the cut set refuses each
 pub cut-refused : (p : Dcop) (tree : RootedTree) (limit : ℕ) (keep : Bool) (cut : List ℕ) (fault : CutFault) → CutSetsAreOne → IsProblem p → IsPseudotreeOf p tree → All (λ s. s ≤ limit) p.sizes → IsCutSet p tree.paths limit cut
-    → IsRefusal p tree.paths cut keep fault → IsRefused p tree.paths limit keep fault
+    → IsCutRefusal p tree.paths cut keep fault → IsCutRefused p tree.paths limit keep fault
 cut-refused p tree limit keep cut fault law problem is few h refused = record {
-  refused = λ other g. subst (λ (c : List ℕ). IsRefusal p tree.paths c keep fault) ((law p tree.paths limit problem is.pseudotree few).one cut other h g) refused;
+  refused = λ other g. subst (λ (c : List ℕ). IsCutRefusal p tree.paths c keep fault) ((law p tree.paths limit problem is.pseudotree few).one cut other h g) refused;
 }
 
 -- want of memory refuses any
-pub memory-refuses : (p : Dcop) (paths : List (List ℕ)) (limit : ℕ) (keep : Bool) → IsRefused p paths limit keep NoMemory
+pub memory-refuses : (p : Dcop) (paths : List (List ℕ)) (limit : ℕ) (keep : Bool) → IsCutRefused p paths limit keep NoMemory
 memory-refuses p paths limit keep = record { refused = λ cut h. tt }
 
 -- what is said of a fault is said of the result that passes it on

@@ -7,7 +7,7 @@ use Rattle.pseudotree.specs.Pseudotree.{RootedTree, IsPseudotreeOf}
 use Rattle.certificate_text.specs.declared.certificate.Turn.{Turn}
 use Rattle.run_laws.specs.Slice.{slice_of}
 use Rattle.minimised_problem.specs.Utils.{AreUtilsOf, HaveMade}
-use Rattle.cut_dpop.specs.Kept.{IsTurn, AreTurns, AreKept, KeepsTurn, IsKeptNext}
+use Rattle.cut_dpop.specs.Kept.{IsCutTurn, AreCutTurns, AreTurnsKept, KeepsTurn, IsKeptNext}
 use Rattle.cut_dpop.specs.Played.{turn_of}
 
 -- one more behind
@@ -18,15 +18,15 @@ zip-behind P a (suc n) [] x all here = absurd all
 zip-behind P a (suc n) (y ∷ ys) x all here = (all.0, zip-behind P (a + 1) n ys x all.1 (subst (λ (k : ℕ). P k x) (let e : a + suc n ≡ a + 1 + n = omega arith in e) here))
 
 -- before the first turn there are none
-pub kept-none : (keep : Bool) (p : Dcop) (paths : List (List ℕ)) (cut : List ℕ) (turns : List Turn) → turns ≡ [] → AreKept keep p paths cut 0 turns
-kept-none true p paths cut turns none = subst (AreTurns p paths cut 0) (sym none) tt
+pub kept-none : (keep : Bool) (p : Dcop) (paths : List (List ℕ)) (cut : List ℕ) (turns : List Turn) → turns ≡ [] → AreTurnsKept keep p paths cut 0 turns
+kept-none true p paths cut turns none = subst (AreCutTurns p paths cut 0) (sym none) tt
 kept-none false p paths cut turns none = none
 
-pub kept-next : (keep : Bool) (p : Dcop) (paths : List (List ℕ)) (cut : List ℕ) (n : ℕ) (old new : List Turn) → AreKept keep p paths cut n old → IsKeptNext keep p paths cut n old new → AreKept keep p paths cut (n + 1) new
+pub kept-next : (keep : Bool) (p : Dcop) (paths : List (List ℕ)) (cut : List ℕ) (n : ℕ) (old new : List Turn) → AreTurnsKept keep p paths cut n old → IsKeptNext keep p paths cut n old new → AreTurnsKept keep p paths cut (n + 1) new
 kept-next true p paths cut n old new are next =
-    let turn : IsTurn p paths cut n next.0 = record { values = next.2; tables = next.3 } in
-    let at : IsTurn p paths cut (0 + n) next.0 = subst (λ (k : ℕ). IsTurn p paths cut k next.0) (let e : n ≡ 0 + n = omega arith in e) turn in
-    subst (λ (k : ℕ). AreTurns p paths cut k new) (let e : suc n ≡ n + 1 = omega arith in e) (subst (AreTurns p paths cut (suc n)) (sym next.1) (zip-behind (IsTurn p paths cut) 0 n old next.0 are at))
+    let turn : IsCutTurn p paths cut n next.0 = record { values = next.2; tables = next.3 } in
+    let at : IsCutTurn p paths cut (0 + n) next.0 = subst (λ (k : ℕ). IsCutTurn p paths cut k next.0) (let e : n ≡ 0 + n = omega arith in e) turn in
+    subst (λ (k : ℕ). AreCutTurns p paths cut k new) (let e : suc n ≡ n + 1 = omega arith in e) (subst (AreCutTurns p paths cut (suc n)) (sym next.1) (zip-behind (IsCutTurn p paths cut) 0 n old next.0 are at))
 kept-next false p paths cut n old new are next = next ∙ are
 
 -- the tables that the agents of a slice made are those of its turn

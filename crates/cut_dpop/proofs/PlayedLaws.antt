@@ -13,7 +13,7 @@ use Rattle.protocol_steps.specs.Values.{choices}
 use Rattle.run_laws.specs.Slice.{AreCut, AreCutValues, slice_of}
 use Rattle.run_laws.specs.Turns.{turn_count}
 use Rattle.cut_dpop.specs.Start.{HaveFirst}
-use Rattle.cut_dpop.specs.Played.{turn_of, IsPlayed}
+use Rattle.cut_dpop.specs.Played.{turn_of, IsTurnPlayed}
 use Rattle.cut_dpop.proofs.BestLaws.{turn-within}
 
 module _ (p : Dcop) (paths : List (List ℕ)) (cut sizes : List ℕ) (sized : sizes ≡ sizes_of p cut) (number : ℕ) (turn : List ℕ) (is : turn ≡ get_or (choices sizes) number []) where
@@ -36,7 +36,7 @@ module _ (p : Dcop) (paths : List (List ℕ)) (cut sizes : List ℕ) (sized : si
     cut-inside may k d lt = let low = may.within k d lt in let long = left-long in omega (arith, low, long)
 
     pub is-played : (total : ℕ) (values : List ℕ) → total ≡ cost left outcome.values → values ≡ put_in cut turn outcome.values
-        → IsPlayed p paths cut number (record { cost = total; values = values; deliveries = outcome.deliveries })
+        → IsTurnPlayed p paths cut number (record { cost = total; values = values; deliveries = outcome.deliveries })
     is-played total values et ev =
         let same : left ≡ slice_of p cut (turn_of p cut number) = left_is ∙ ap (slice_of p cut) turn-is in
         let count : length left.sizes ≡ length p.sizes = ap (λ (q : Dcop). length q.sizes) left_is ∙ length-ones_at cut p.sizes in record {

@@ -8,18 +8,18 @@ use Rattle.minimised_problem.specs.Utils.{AreUtilsOf}
 use Rattle.cut_dpop.specs.Played.{turn_of}
 
 -- the turn with this number: its values, and the tables of all variables of its slice, in preorder
-pub record IsTurn (p : Dcop) (paths : List (List ℕ)) (cut : List ℕ) (number : ℕ) (turn : Turn) : Type 0 where
+pub record IsCutTurn (p : Dcop) (paths : List (List ℕ)) (cut : List ℕ) (number : ℕ) (turn : Turn) : Type 0 where
   pub values : turn.values ≡ turn_of p cut number
   pub tables : AreUtilsOf (slice_of p cut (turn_of p cut number)) paths turn.tables
 
 -- the first `count` turns with their tables, in order
-abbrev pub AreTurns : Dcop → List (List ℕ) → List ℕ → ℕ → List Turn → Type 0
-AreTurns p paths cut count turns = AllZip (IsTurn p paths cut) (range_with_len 0 count) turns
+abbrev pub AreCutTurns : Dcop → List (List ℕ) → List ℕ → ℕ → List Turn → Type 0
+AreCutTurns p paths cut count turns = AllZip (IsCutTurn p paths cut) (range_with_len 0 count) turns
 
 -- the first `count` turns with their tables if tables are kept, and none otherwise
-abbrev pub AreKept : Bool → Dcop → List (List ℕ) → List ℕ → ℕ → List Turn → Type 0
-AreKept true p paths cut count turns = AreTurns p paths cut count turns
-AreKept false p paths cut count turns = turns ≡ []
+abbrev pub AreTurnsKept : Bool → Dcop → List (List ℕ) → List ℕ → ℕ → List Turn → Type 0
+AreTurnsKept true p paths cut count turns = AreCutTurns p paths cut count turns
+AreTurnsKept false p paths cut count turns = turns ≡ []
 
 -- if tables are kept, those of a turn with these values and this slice are added after the others
 abbrev pub KeepsTurn : Bool → Dcop → List (List ℕ) → List ℕ → List Turn → List Turn → Type 0

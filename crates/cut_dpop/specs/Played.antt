@@ -15,7 +15,7 @@ turn_of p cut number = slice_index_or (turns_of p cut) number []
 
 -- the result of a turn: the first optimum of its slice on the tree, with the turn's own values, its
 -- cost, and the number of messages that DPOP takes
-pub record IsPlayed (p : Dcop) (paths : List (List ℕ)) (cut : List ℕ) (number : ℕ) (played : Played) : Type 0 where
+pub record IsTurnPlayed (p : Dcop) (paths : List (List ℕ)) (cut : List ℕ) (number : ℕ) (played : Played) : Type 0 where
   pub others : List ℕ
   pub first : IsFirstOptimumOf (slice_of p cut (turn_of p cut number)) paths others
   pub cost_is : played.cost ≡ cost (slice_of p cut (turn_of p cut number)) others
@@ -26,6 +26,6 @@ pub record IsPlayed (p : Dcop) (paths : List (List ℕ)) (cut : List ℕ) (numbe
 pub record IsBestOf (p : Dcop) (paths : List (List ℕ)) (cut : List ℕ) (count : ℕ) (best : Played) : Type 0 where
   pub number : ℕ
   pub within : number < count
-  pub played : IsPlayed p paths cut number best
+  pub played : IsTurnPlayed p paths cut number best
   pub lowest : (k c : ℕ) → k < count → IsOptimum (slice_of p cut (turn_of p cut k)) c → best.cost ≤ c
   pub first : (k c : ℕ) → k < number → IsOptimum (slice_of p cut (turn_of p cut k)) c → best.cost < c

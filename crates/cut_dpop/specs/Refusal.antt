@@ -20,9 +20,9 @@ refusal p paths cut keep =
     else None)
 
 -- a cut is refused for this fault; memory may run out at any cut
-abbrev pub IsRefusal : Dcop → List (List ℕ) → List ℕ → Bool → CutFault → Type 0
-IsRefusal p paths cut keep NoMemory = Unit {0}
-IsRefusal p paths cut keep fault = refusal p paths cut keep ≡ Some fault
+abbrev pub IsCutRefusal : Dcop → List (List ℕ) → List ℕ → Bool → CutFault → Type 0
+IsCutRefusal p paths cut keep NoMemory = Unit {0}
+IsCutRefusal p paths cut keep fault = refusal p paths cut keep ≡ Some fault
 
 -- this many turns are run, since nothing refuses the cut
 abbrev pub AreAllowed : Dcop → List (List ℕ) → List ℕ → Bool → ℕ → Type 0

@@ -23,8 +23,8 @@ IsDpopStart p (Dpop tree) = IsTreeFor p tree
 IsDpopStart p (Adopt tree error) = ⊥
 
 -- the tree is narrow for each slice
-abbrev pub IsNarrowInTurns : Dcop → List (List ℕ) → List ℕ → Type 0
-IsNarrowInTurns p paths cut = (values : List ℕ) → IsNarrow (slice_of p cut values) paths
+abbrev pub IsNarrowForSlices : Dcop → List (List ℕ) → List ℕ → Type 0
+IsNarrowForSlices p paths cut = (values : List ℕ) → IsNarrow (slice_of p cut values) paths
 
 -- how many messages one turn takes: a UTIL from each variable but the root, and a VALUE to it
 abbrev pub turn_deliveries : Dcop → ℕ

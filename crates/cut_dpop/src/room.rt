@@ -5,7 +5,7 @@ ghost use Rattle.pseudotree.specs.Place.{sizes_of};
 ghost use Rattle.pseudotree.specs.Pseudotree.{IsPseudotreeOf};
 ghost use Rattle.pseudotree.specs.Width.{told};
 ghost use Rattle.run_laws.specs.Slice.{AreCut};
-ghost use Rattle.cut_dpop.specs.Refusal.{AreAllowed, IsRefusal};
+ghost use Rattle.cut_dpop.specs.Refusal.{AreAllowed, IsCutRefusal};
 
 use crate::fault::CutFault;
 use dcop_base::{MAX_SENT_CELLS, MAX_TURNS, Problem, VarList, product_of};
@@ -27,7 +27,7 @@ pub(crate) fn turns_of(
     requires cut { AreCut problem.now cut.now }
     requires sizes { sizes.now ≡ sizes_of problem.now cut.now }
     ensures allowed { IfOk result (AreAllowed problem.now tree.now.paths cut.now keep) }
-    ensures refused { IfErr result (IsRefusal problem.now tree.now.paths cut.now keep) }
+    ensures refused { IfErr result (IsCutRefusal problem.now tree.now.paths cut.now keep) }
 {
     let turns = product_of(sizes) as u64;
     if turns > MAX_TURNS {

@@ -4,7 +4,7 @@ ghost use Rattle.std.specs.Prelude.{◌<◌, ◌≤◌, IfOk, IfErr};
 ghost use Rattle.std.specs.List.{All};
 ghost use Rattle.dcop_base.specs.Limits.{joined_limit};
 ghost use Rattle.delivery_core.specs.Agents.{IsTreeFor};
-ghost use Rattle.cut_dpop.specs.End.{IsCutEnd, IsRefused};
+ghost use Rattle.cut_dpop.specs.End.{IsCutEnd, IsCutRefused};
 
 use crate::crew::Crew;
 use crate::fault::CutFault;
@@ -63,7 +63,7 @@ pub fn run_cut<R: Threads + Sync, G: Gate>(
     requires most { limit ≤ joined_limit }
     requires workers { 0 < workers }
     ensures end { IfOk result (IsCutEnd problem.now tree.now.paths limit keep) }
-    ensures refused { IfErr result (IsRefused problem.now tree.now.paths limit keep) }
+    ensures refused { IfErr result (IsCutRefused problem.now tree.now.paths limit keep) }
 {
     cut_sets_are_one();
     cut_sets_make_narrow();

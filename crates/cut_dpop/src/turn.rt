@@ -8,9 +8,9 @@ ghost use Rattle.pseudotree.specs.Place.{sizes_of};
 ghost use Rattle.pseudotree.specs.Width.{IsNarrow};
 ghost use Rattle.run_laws.specs.Slice.{AreCut};
 ghost use Rattle.run_laws.specs.Turns.{turn_count};
-ghost use Rattle.cut_dpop.specs.Start.{paths_in, IsDpopStart, IsNarrowInTurns, HaveFirst};
-ghost use Rattle.cut_dpop.specs.Kept.{AreKept, IsKeptNext};
-ghost use Rattle.cut_dpop.specs.Played.{IsPlayed, IsBestOf};
+ghost use Rattle.cut_dpop.specs.Start.{paths_in, IsDpopStart, IsNarrowForSlices, HaveFirst};
+ghost use Rattle.cut_dpop.specs.Kept.{AreTurnsKept, IsKeptNext};
+ghost use Rattle.cut_dpop.specs.Played.{IsTurnPlayed, IsBestOf};
 
 use crate::agents::run_agents;
 use crate::crew::Crew;
@@ -58,12 +58,12 @@ pub(crate) fn play_turns<R: Threads + Sync, G: Gate>(
 ) -> Result<AllPlayed, NoMemory>
     requires start { IsDpopStart problem.now start.now }
     requires cut { AreCut problem.now cut.now }
-    requires narrow { IsNarrowInTurns problem.now (paths_in start.now) cut.now }
+    requires narrow { IsNarrowForSlices problem.now (paths_in start.now) cut.now }
     requires sizes { sizes.now ≡ sizes_of problem.now cut.now }
     requires turns { turns ≡ turn_count problem.now cut.now }
     requires few { turns ≤ turn_limit }
     ensures best { IfOk result (λ all. IsBestOf problem.now (paths_in start.now) cut.now turns all.best) }
-    ensures kept { IfOk result (λ all. AreKept keep problem.now (paths_in start.now) cut.now turns all.tables) }
+    ensures kept { IfOk result (λ all. AreTurnsKept keep problem.now (paths_in start.now) cut.now turns all.tables) }
 {
     problem_is_whole(problem);
     let mut kept = Vec::new(alloc);
@@ -97,11 +97,11 @@ fn play_turn<R: Threads + Sync, G: Gate>(
 ) -> Result<Played, NoMemory>
     requires start { IsDpopStart problem.now start.now }
     requires cut { AreCut problem.now cut.now }
-    requires narrow { IsNarrowInTurns problem.now (paths_in start.now) cut.now }
+    requires narrow { IsNarrowForSlices problem.now (paths_in start.now) cut.now }
     requires sizes { sizes.now ≡ sizes_of problem.now cut.now }
     requires few { turn_count problem.now cut.now ≤ turn_limit }
     requires within { number < turn_count problem.now cut.now }
-    ensures played { IfOk result (IsPlayed problem.now (paths_in start.now) cut.now number) }
+    ensures played { IfOk result (IsTurnPlayed problem.now (paths_in start.now) cut.now number) }
     ensures kept { OnOk result (IsKeptNext keep problem.now (paths_in start.now) cut.now number kept.old.items kept.new.items) }
 {
     slices_are_problems();

@@ -23,7 +23,7 @@ use Rattle.letter_queues.specs.Inboxes.{senders, letters_by, short_in}
 use Rattle.letter_queues.proofs.InboxLaws.{letters_taken, asc_parts}
 use Rattle.delivery_core.specs.State.{SeatView}
 use Rattle.delivery_core.specs.SeatEvents.{seat_after, seat_sends, deliver_all, seats_after, seat_fault, core_fault}
-use Rattle.delivery_core.specs.Shown.{Shows, Moves}
+use Rattle.delivery_core.specs.Shown.{ShowsNetwork, Moves}
 use Rattle.delivery_core.specs.Exchanges.{Trades}
 use Rattle.delivery_core.proofs.NearLaws.{near_back}
 use Rattle.delivery_core.proofs.ShownLaws.{view_there, ascend, waits_here, letters_same, inside, form, short, box, shown_after}
@@ -98,7 +98,7 @@ empty_by : (k : ℕ) (ms : List Message) → letters_of k ms ≡ [] → ms ≡ [
 empty_by k [] h = refl
 empty_by k (m ∷ ms) h = absurd (cc)
 
-module _ (p : Dcop) (net : Network) (seats : List SeatView) (s : Shows p net seats) (e : Event) (x : SeatView) (here : slice_get seats e.agent ≡ Some x)
+module _ (p : Dcop) (net : Network) (seats : List SeatView) (s : ShowsNetwork p net seats) (e : Event) (x : SeatView) (here : slice_get seats e.agent ≡ Some x)
     (fine : seat_fault (length seats) e.takes (Some x) ≡ None) where
   abbrev W : ℕ → List Message
   W j = waiting net.desks e.agent j
@@ -143,7 +143,7 @@ moved seats e h k agent y out final at by after sends reach is = λ p net s.
     ap (λ (o : Option SeatView). seats_after seats e.agent e.takes o) h.here
     ∙ sym (is ∙ ap (λ (i : ℕ). deliver_all i (slice_set seats k y) out) by ∙ ap (λ (i : ℕ). deliver_all e.agent (slice_set seats i y) out) at
     ∙ ap (λ (z : SeatView). deliver_all e.agent (slice_set seats e.agent z) out) after ∙ ap (λ (ms : List (ℕ × Message)). deliver_all e.agent (slice_set seats e.agent (seat_after h.seat e.takes)) ms) sends) in
-    subst (λ (zs : List SeatView). Shows p (effect net e) zs) end (shown_after p net seats s e h.seat h.here h.fine all)
+    subst (λ (zs : List SeatView). ShowsNetwork p (effect net e) zs) end (shown_after p net seats s e h.seat h.here h.fine all)
 
 -- what the code reports is what the agent takes and sends in the network
 pub traded : (seats : List SeatView) (e : Event) (h : Seated seats e) (took sent : List (ℕ × Message)) → took ≡ letters_by h.seat.inbox e.takes → sent ≡ seat_sends h.seat e.takes → Trades seats e took sent

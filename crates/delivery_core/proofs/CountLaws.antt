@@ -11,7 +11,7 @@ use Rattle.protocol_steps.specs.Step.{step_of}
 use Rattle.protocol_steps.specs.Network.{Desk, Network, batch}
 use Rattle.protocol_steps.specs.Effect.{desk_after, network_after, effect, effect_at, deliveries}
 use Rattle.delivery_core.specs.State.{SeatView}
-use Rattle.delivery_core.specs.Shown.{Shows}
+use Rattle.delivery_core.specs.Shown.{ShowsNetwork}
 use Rattle.delivery_core.proofs.ShownLaws.{there_is, view_there}
 use Rattle.delivery_core.proofs.ActLaws.{Seated}
 
@@ -21,7 +21,7 @@ counts ts = sum_by (λ t. t.count) ts
 abbrev taken_by : Desk → ℕ
 taken_by x = counts x.takes
 
-pub deliveries_after : (p : Dcop) (net : Network) (seats : List SeatView) → Shows p net seats → (e : Event) → Seated seats e → deliveries (effect net e) ≡ deliveries net + counts e.takes
+pub deliveries_after : (p : Dcop) (net : Network) (seats : List SeatView) → ShowsNetwork p net seats → (e : Event) → Seated seats e → deliveries (effect net e) ≡ deliveries net + counts e.takes
 deliveries_after p net seats s e h =
     let i : ℕ = e.agent in
     let lt : i < length seats = slice_get_within seats i h.seat h.here in

@@ -26,7 +26,7 @@ use Rattle.letter_queues.specs.Inboxes.{senders, without_next, take_off, letters
 use Rattle.letter_queues.proofs.InboxLaws.{map_link, with_lasts, from_of, link_off, link_kept, off_senders, kept_senders, letters_all, taken_of, none_of, asc_parts}
 use Rattle.delivery_core.specs.State.{SeatView, inbox_of, inbox_at}
 use Rattle.delivery_core.specs.SeatEvents.{seat_after, seat_sends, deliver_all, seats_after, seat_fault, core_fault}
-use Rattle.delivery_core.specs.Shown.{IsRunning, Shows}
+use Rattle.delivery_core.specs.Shown.{IsRunningAgent, ShowsNetwork}
 use Rattle.delivery_core.proofs.NearLaws.{near_back}
 use Rattle.protocol_steps.proofs.StartedLaws.{step_started, step_private}
 use Rattle.delivery_core.proofs.DeliverLaws.{Delivered, delivered, inbox_set, seen_from}
@@ -67,7 +67,7 @@ fits W ls (t ∷ ts) b w short asc j =
 fault_at_both : (ds : List Desk) (e : Event) (v w : Option View) (x y : Option Desk) → v ≡ w → x ≡ y → fault_at ds e v x ≡ fault_at ds e w y
 fault_at_both ds e v w x y p q = ap (λ (o : Option View). fault_at ds e o x) p ∙ ap (λ (o : Option Desk). fault_at ds e w o) q
 
-module _ (p : Dcop) (net : Network) (seats : List SeatView) (s : Shows p net seats) where
+module _ (p : Dcop) (net : Network) (seats : List SeatView) (s : ShowsNetwork p net seats) where
   fault_with : (e : Event) (x : SeatView) (d : Desk) → slice_get net.views e.agent ≡ Some x.view → slice_get net.desks e.agent ≡ Some d → event_fault net e ≡ takes_fault net.desks e.agent (ended_of x.view) e.takes
   fault_with e x d v h = fault_at_both net.desks e (slice_get net.views e.agent) (Some x.view) (slice_get net.desks e.agent) (Some d) v h
 
@@ -137,7 +137,7 @@ seen_case : (b : Bool) (i j : ℕ) (ms more : List Message) → (i == j) ≡ b �
 seen_case true i j ms more h = ap (λ (k : ℕ). letters_of j ms ++ letters_of k more) (eqb-true i j h) ∙ sym (map-append (λ (m : Message). (j, m)) ms more)
 seen_case false i j ms more h = append-nil (letters_of j ms) ∙ ap (λ (ns : List Message). letters_of j ns) (sym (append-nil ms))
 
-module _ (p : Dcop) (net : Network) (seats : List SeatView) (s : Shows p net seats) (e : Event) (x : SeatView) (here : slice_get seats e.agent ≡ Some x)
+module _ (p : Dcop) (net : Network) (seats : List SeatView) (s : ShowsNetwork p net seats) (e : Event) (x : SeatView) (here : slice_get seats e.agent ≡ Some x)
     (fine : seat_fault (length seats) e.takes (Some x) ≡ None) where
   abbrev W : ℕ → List Message
   W j = waiting net.desks e.agent j
@@ -249,13 +249,13 @@ module _ (p : Dcop) (net : Network) (seats : List SeatView) (s : Shows p net sea
     is_rest : (j : ℕ) → W j ≡ s.rest e.agent j
     is_rest j = waiting_is p net seats s e.agent j inside
 
-    running_new : (i : ℕ) (v : View) → slice_get one.views i ≡ Some v → IsRunning p i v
+    running_new : (i : ℕ) (v : View) → slice_get one.views i ≡ Some v → IsRunningAgent p i v
     running_new i v h = elim (cases_eq e.agent i) [
       | inl same ↦ (let w : View = (step_of x.view bt).view in
           let got : slice_get one.views i ≡ Some w = subst (λ (n : ℕ). slice_get (slice_set net.views e.agent w) n ≡ Some w) same (get_same net.views e.agent x.view w view_here) in
           let was = s.running e.agent x.view view_here in
-          let now : IsRunning p e.agent w = record { near = ap (λ own. own.neighbours) (step_private x.view bt) ∙ was.near; started = step_started x.view bt ∙ was.started } in
-          subst (λ (u : View). IsRunning p i u) (same_Some w v (sym got ∙ h)) (subst (λ (n : ℕ). IsRunning p n w) same now))
+          let now : IsRunningAgent p e.agent w = record { near = ap (λ own. own.neighbours) (step_private x.view bt) ∙ was.near; started = step_started x.view bt ∙ was.started } in
+          subst (λ (u : View). IsRunningAgent p i u) (same_Some w v (sym got ∙ h)) (subst (λ (n : ℕ). IsRunningAgent p n w) same now))
       | inr other ↦ s.running i v (sym (get_other net.views e.agent i (step_of x.view bt).view other) ∙ h)
     ]
 
@@ -298,7 +298,7 @@ module _ (p : Dcop) (net : Network) (seats : List SeatView) (s : Shows p net sea
     size_new : length seats_new ≡ length seats
     size_new = new.size ∙ length-set seats e.agent (seat_after x e.takes)
 
-    shown_one : Shows p one seats_new
+    shown_one : ShowsNetwork p one seats_new
     shown_one = record {
       size = size_new ∙ s.size;
       desks = length-set net.desks e.agent (desk_after desk_here.0 (step_of x.view bt).sends e.takes) ∙ s.desks ∙ sym size_new;
@@ -323,9 +323,9 @@ module _ (p : Dcop) (net : Network) (seats : List SeatView) (s : Shows p net sea
     }
 
     -- after a lawful event the agents are those of the network after it
-    pub shown_after : Shows p (effect net e) (seats_after seats e.agent e.takes (slice_get seats e.agent))
+    pub shown_after : ShowsNetwork p (effect net e) (seats_after seats e.agent e.takes (slice_get seats e.agent))
     shown_after =
         let is : one ≡ effect net e =
         ap (λ (v : Option View). effect_at net e v (Some desk_here.0)) (sym view_here) ∙ ap (λ (d : Option Desk). effect_at net e (slice_get net.views e.agent) d) (sym desk_here.1) in
         let now : seats_new ≡ seats_after seats e.agent e.takes (slice_get seats e.agent) = ap (λ (o : Option SeatView). seats_after seats e.agent e.takes o) (sym here) in
-        subst (λ (n : Network). Shows p n (seats_after seats e.agent e.takes (slice_get seats e.agent))) is (subst (λ (zs : List SeatView). Shows p one zs) now shown_one)
+        subst (λ (n : Network). ShowsNetwork p n (seats_after seats e.agent e.takes (slice_get seats e.agent))) is (subst (λ (zs : List SeatView). ShowsNetwork p one zs) now shown_one)

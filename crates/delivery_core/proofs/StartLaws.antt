@@ -26,8 +26,8 @@ use Rattle.delivery_core.specs.declared.start.Start.TheVariants.{Token, Dpop, Ad
 use Rattle.delivery_core.specs.State.{SeatView, inbox_of, inbox_at, views_of}
 use Rattle.delivery_core.specs.SeatEvents.{deliver_all}
 use Rattle.delivery_core.specs.Agents.{agents_of}
-use Rattle.delivery_core.specs.Starts.{knowledge_for, agent_of, new_seat, sends_in, first_sends, IsFresh, Begun}
-use Rattle.delivery_core.specs.Shown.{IsRunning, Shows}
+use Rattle.delivery_core.specs.Starts.{knowledge_for, agent_of, new_seat, sends_in, first_sends, IsFreshAgent, Begun}
+use Rattle.delivery_core.specs.Shown.{IsRunningAgent, ShowsNetwork}
 use Rattle.delivery_core.proofs.NearLaws.{near_back}
 use Rattle.protocol_steps.proofs.StartedLaws.{start_starts, start_private}
 use Rattle.delivery_core.proofs.DeliverLaws.{Delivered, delivered, inbox_set, seen_from}
@@ -80,7 +80,7 @@ module _ (p : Dcop) (made : List View) (k : ℕ) (seats : List SeatView) (b : Be
       sym (split_get made k) ∙ ap (λ (vs : List View). slice_get vs k) (sym b.views) ∙ slice_get-map (λ (y : SeatView). y.view) seats k
       ∙ ap (λ (o : Option SeatView). option_map (λ (y : SeatView). y.view) o) here
 
-  fresh : IsFresh p k x.view
+  fresh : IsFreshAgent p k x.view
   fresh = b.new k x.view made_here
 
   pub may_start : MayStart x.view
@@ -164,7 +164,7 @@ new_box made i v h = ap inbox_of (slice_get-map new_seat made i ∙ ap (λ (o : 
 none_below : (j : ℕ) (ms : List Message) → letters_of j (if nat_lt j 0 then ms else []) ≡ []
 none_below j ms = ap (λ (b : Bool). letters_of j (if b then ms else [])) (le-ltb j 0 (omega arith))
 
-pub begun_new : (p : Dcop) (made : List View) → length made ≡ length p.sizes → ((i : ℕ) (v : View) → slice_get made i ≡ Some v → IsFresh p i v) → Begun p made 0 (map new_seat made)
+pub begun_new : (p : Dcop) (made : List View) → length made ≡ length p.sizes → ((i : ℕ) (v : View) → slice_get made i ≡ Some v → IsFreshAgent p i v) → Begun p made 0 (map new_seat made)
 begun_new p made count new =
     let at : (i : ℕ) → i < length (map new_seat made) → (v : View) × (slice_get made i ≡ Some v) = λ i lt. there_is made i (omega (arith, lt, length-map made new_seat)) in
     record {
@@ -188,7 +188,7 @@ map_get : {A B : Type 0} (f : A → B) (o : Option A) (y : B) → option_map f o
 map_get f None y h = absurd (none-some y h)
 map_get f (Some x) y h = (x, refl, same_Some (f x) y h)
 
-fresh_agent : (p : Dcop) (start : Start) (i : ℕ) → IsFresh p i (agent_of p start i)
+fresh_agent : (p : Dcop) (start : Start) (i : ℕ) → IsFreshAgent p i (agent_of p start i)
 fresh_agent p Token i = record { near = refl; fresh = refl }
 fresh_agent p (Dpop tree) i = record { near = refl; fresh = refl }
 fresh_agent p (Adopt tree error) i = record { near = refl; fresh = refl }
@@ -228,11 +228,11 @@ agents_made p Token = refl
 agents_made p (Dpop tree) = refl
 agents_made p (Adopt tree error) = refl
 
-fresh_made : (p : Dcop) (start : Start) (i : ℕ) (v : View) → slice_get (map (agent_of p start) (range_with_len 0 (length p.sizes))) i ≡ Some v → IsFresh p i v
+fresh_made : (p : Dcop) (start : Start) (i : ℕ) (v : View) → slice_get (map (agent_of p start) (range_with_len 0 (length p.sizes))) i ≡ Some v → IsFreshAgent p i v
 fresh_made p start i v h =
     let r = map_get (agent_of p start) (slice_get (range_with_len 0 (length p.sizes)) i) v (sym (slice_get-map (agent_of p start) (range_with_len 0 (length p.sizes)) i) ∙ h) in
     let e : r.0 ≡ i = (let f = range_get 0 (length p.sizes) i r.0 r.1 in omega (arith, f)) in
-    subst (λ (w : View). IsFresh p i w) (ap (agent_of p start) (sym e) ∙ r.2) (fresh_agent p start i)
+    subst (λ (w : View). IsFreshAgent p i w) (ap (agent_of p start) (sym e) ∙ r.2) (fresh_agent p start i)
 
 pub begun_agents : (p : Dcop) (start : Start) → Begun p (agents_of p start) 0 (map new_seat (agents_of p start))
 begun_agents p start =
@@ -271,7 +271,7 @@ first_case n i j made e = elim (cases_lt j n) [
       ∙ ap (λ (o : Option View). messages_to i (sends_in o)) (sym (slice_get_past made j (omega (arith, le, e))))
 ]
 
-pub begun_all : (p : Dcop) (made : List View) (seats : List SeatView) → Begun p made (length made) seats → Shows p (start_state made) seats
+pub begun_all : (p : Dcop) (made : List View) (seats : List SeatView) → Begun p made (length made) seats → ShowsNetwork p (start_state made) seats
 begun_all p made seats b = record {
   size = b.size ∙ b.count;
   desks = length-map made first_desk ∙ sym b.size;
@@ -281,8 +281,8 @@ begun_all p made seats b = record {
       ∙ append-nil (map after_start made);
   links = b.links;
   running = λ i v h. (let r = map_get after_start (slice_get made i) v (sym (slice_get-map after_start made i) ∙ h) in
-      let run : IsRunning p i (after_start r.0) = record { near = ap (λ own. own.neighbours) (start_private r.0) ∙ (b.new i r.0 r.1).near; started = start_starts r.0 } in
-      subst (λ (w : View). IsRunning p i w) r.2 run);
+      let run : IsRunningAgent p i (after_start r.0) = record { near = ap (λ own. own.neighbours) (start_private r.0) ∙ (b.new i r.0 r.1).near; started = start_starts r.0 } in
+      subst (λ (w : View). IsRunningAgent p i w) r.2 run);
   past = λ i j. [];
   rest = λ i j. messages_to i (first_sends made j);
   sent = λ i j lt. ap (λ (o : Option Desk). messages_to i (sent_at o)) (slice_get-map first_desk made j) ∙ ap (λ (ps : List (ℕ × Message)). messages_to i ps) (sent_first (slice_get made j));

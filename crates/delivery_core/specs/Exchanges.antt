@@ -6,7 +6,7 @@ use Rattle.protocol_steps.specs.declared.event.Event.{Event}
 use Rattle.protocol_steps.specs.Network.{Network, batch}
 use Rattle.protocol_steps.specs.Effect.{event_sends}
 use Rattle.delivery_core.specs.State.{SeatView, CoreView}
-use Rattle.delivery_core.specs.Shown.{Shows, IsCore}
+use Rattle.delivery_core.specs.Shown.{ShowsNetwork, IsCore}
 
 -- in this event of a core state the agent takes these letters and sends these parcels
 pub record Exchanges (s : CoreView) (e : Event) (took : List (ℕ × Message)) (sent : List (ℕ × Message)) : Type 0 where
@@ -16,4 +16,4 @@ pub record Exchanges (s : CoreView) (e : Event) (took : List (ℕ × Message)) (
 -- the same for a list of agents: in this event its agent takes these letters and sends these
 -- parcels
 abbrev pub Trades : List SeatView → Event → List (ℕ × Message) → List (ℕ × Message) → Type 0
-Trades seats e took sent = (p : Dcop) (net : Network) → Shows p net seats → (took ≡ batch net.desks e.agent e.takes) × (sent ≡ event_sends net e)
+Trades seats e took sent = (p : Dcop) (net : Network) → ShowsNetwork p net seats → (took ≡ batch net.desks e.agent e.takes) × (sent ≡ event_sends net e)

@@ -17,18 +17,18 @@ use Rattle.delivery_core.specs.State.{SeatView, CoreView, inbox_at, views_of}
 use Rattle.delivery_core.specs.NetworkState.{most_counted}
 
 -- the view of an agent of this problem that has started: its neighbours are those of variable i
-pub record IsRunning (p : Dcop) (i : ℕ) (v : View) : Type 0 where
+pub record IsRunningAgent (p : Dcop) (i : ℕ) (v : View) : Type 0 where
   pub near : (private_of v).neighbours ≡ neighbours p i
   pub started : started_of v ≡ true
 
 -- the agents are those of this network: they have the same views, and each has a link for each
 -- neighbour; the messages of a link are those that were taken, followed by those that wait
-pub record Shows (p : Dcop) (net : Network) (seats : List SeatView) : Type 0 where
+pub record ShowsNetwork (p : Dcop) (net : Network) (seats : List SeatView) : Type 0 where
   pub size : length seats ≡ length p.sizes
   pub desks : length net.desks ≡ length seats
   pub views : views_of seats ≡ net.views
   pub links : (i : ℕ) → i < length seats → senders (inbox_at seats i) ≡ neighbours p i
-  pub running : (i : ℕ) (v : View) → slice_get net.views i ≡ Some v → IsRunning p i v
+  pub running : (i : ℕ) (v : View) → slice_get net.views i ≡ Some v → IsRunningAgent p i v
   pub past : ℕ → ℕ → List Message
   pub rest : ℕ → ℕ → List Message
   pub sent : (i j : ℕ) → i < length seats → link net.desks j i ≡ past i j ++ rest i j
@@ -38,7 +38,7 @@ pub record Shows (p : Dcop) (net : Network) (seats : List SeatView) : Type 0 whe
 
 -- a core state is this network state, of agents of this problem
 pub record IsCore (p : Dcop) (net : Network) (s : CoreView) : Type 0 where
-  pub shows : Shows p net s.seats
+  pub shows : ShowsNetwork p net s.seats
   pub delivered : s.delivered ≡ min (deliveries net) most_counted
 
 -- a core state is a network state of some problem
@@ -59,7 +59,7 @@ CountsWaiting s to from count = (p : Dcop) (net : Network) → IsCore p net s �
 
 -- the event leads from the first list of agents to the second
 abbrev pub Moves : List SeatView → Event → List SeatView → Type 0
-Moves old e new = (p : Dcop) (net : Network) → Shows p net old → Shows p (effect net e) new
+Moves old e new = (p : Dcop) (net : Network) → ShowsNetwork p net old → ShowsNetwork p (effect net e) new
 
 -- these events are a run that ends in this core state
 abbrev pub RunsTo : Dcop → Network → List Event → CoreView → Type 0

@@ -43,7 +43,7 @@ abbrev pub first_sends : List View → ℕ → List (ℕ × Message)
 first_sends made j = sends_in (slice_get made j)
 
 -- the view of an agent of this problem that has not started: its neighbours are those of variable i
-pub record IsFresh (p : Dcop) (i : ℕ) (v : View) : Type 0 where
+pub record IsFreshAgent (p : Dcop) (i : ℕ) (v : View) : Type 0 where
   pub near : (private_of v).neighbours ≡ neighbours p i
   pub fresh : started_of v ≡ false
 
@@ -52,7 +52,7 @@ pub record IsFresh (p : Dcop) (i : ℕ) (v : View) : Type 0 where
 pub record Begun (p : Dcop) (made : List View) (k : ℕ) (seats : List SeatView) : Type 0 where
   pub size : length seats ≡ length made
   pub count : length made ≡ length p.sizes
-  pub new : (i : ℕ) (v : View) → slice_get made i ≡ Some v → IsFresh p i v
+  pub new : (i : ℕ) (v : View) → slice_get made i ≡ Some v → IsFreshAgent p i v
   pub views : views_of seats ≡ map (λ v. (start_of v).view) (take k made) ++ drop k made
   pub links : (i : ℕ) → i < length seats → senders (inbox_at seats i) ≡ neighbours p i
   pub waits : (i j : ℕ) → i < length seats → waiting_from (inbox_at seats i) j ≡ letters_of j (if nat_lt j k then messages_to i (first_sends made j) else [])

@@ -6,7 +6,7 @@ ghost use Rattle.dcop_base.specs.Problem.{Dcop};
 ghost use Rattle.protocol_steps.specs.Network.{Network};
 ghost use Rattle.delivery_core.specs.NetworkState.{most_counted};
 ghost use Rattle.delivery_core.specs.SeatEvents.{deliver, deliver_all, core_fault};
-ghost use Rattle.delivery_core.specs.Shown.{Shows, Moves};
+ghost use Rattle.delivery_core.specs.Shown.{ShowsNetwork, Moves};
 ghost use Rattle.delivery_core.specs.Exchanges.{Trades};
 ghost use Rattle.delivery_core.specs.Takes.{KeepCalm};
 
@@ -62,7 +62,7 @@ pub(crate) fn act(
     agent: VarId,
     takes: &[Take],
 ) -> Result<(), NoMemory>
-    requires network { (p : Dcop) × (net : Network) × Shows p net seats.old }
+    requires network { (p : Dcop) × (net : Network) × ShowsNetwork p net seats.old }
     requires lawful { core_fault seats.old (record { agent = agent; takes = takes.now }) ≡ None }
     ensures moved { OnOk result (Moves seats.old (record { agent = agent; takes = takes.now }) seats.new) }
     ensures calm { KeepCalm arrivals.old seats.old arrivals.new seats.new }
@@ -81,7 +81,7 @@ pub(crate) fn act_telling(
     takes: &[Take],
     exchange: &mut Exchange,
 ) -> Result<(), NoMemory>
-    requires network { (p : Dcop) × (net : Network) × Shows p net seats.old }
+    requires network { (p : Dcop) × (net : Network) × ShowsNetwork p net seats.old }
     requires lawful { core_fault seats.old (record { agent = agent; takes = takes.now }) ≡ None }
     ensures moved { OnOk result (Moves seats.old (record { agent = agent; takes = takes.now }) seats.new) }
     ensures calm { KeepCalm arrivals.old seats.old arrivals.new seats.new }

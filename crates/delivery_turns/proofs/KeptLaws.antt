@@ -14,7 +14,7 @@ use Rattle.delivery_core.specs.State.{CoreView}
 use Rattle.delivery_core.specs.Shown.{IsCore}
 use Rattle.log_replay.specs.Notes.{NotesView, MayBeNotes, KeepNotes, HasHappened, NotesEvent}
 use Rattle.delivery_turns.specs.Turns.{event_with, turn, after}
-use Rattle.delivery_turns.specs.CoreTurns.{Leads, TakesTurn}
+use Rattle.delivery_turns.specs.CoreTurns.{LeadsCore, TakesTurn}
 use Rattle.delivery_turns.specs.Sprints.{IsSomeNoted, NotesTurn}
 
 -- where a lawful event leads
@@ -79,9 +79,9 @@ module _ (k : ℕ) (s t : CoreView) (ts : List Take) (takes : TakesTurn k s t ts
     event_is : (net : Network) → turn net k ≡ event_with k ts → turn net k ≡ e ∷ []
     event_is net with = with ∙ ap (λ (b : Bool). if b then [] else e ∷ []) some
 
-    fine : (p : Dcop) (net mid : Network) → Leads p net (turn net k) mid t → turn net k ≡ event_with k ts → (event_fault net e ≡ None) × IsCore p (effect net e) t
+    fine : (p : Dcop) (net mid : Network) → LeadsCore p net (turn net k) mid t → turn net k ≡ event_with k ts → (event_fault net e ≡ None) × IsCore p (effect net e) t
     fine p net mid leads with =
-        let one : Leads p net (e ∷ []) mid t = subst (λ (es : List Event). Leads p net es mid t) (event_is net with) leads in
+        let one : LeadsCore p net (e ∷ []) mid t = subst (λ (es : List Event). LeadsCore p net es mid t) (event_is net with) leads in
         (one_lawful net mid e one.ran, subst (λ (m : Network). IsCore p m t) (sym one.is) one.core)
 
     pub turn_happened : (a : Option NotesView) → IsSomeNoted 1 s a → HasHappened k ts t a

@@ -18,14 +18,14 @@ use Rattle.delivery_core.specs.State.{CoreView}
 use Rattle.delivery_core.specs.NetworkState.{most_counted}
 use Rattle.delivery_turns.specs.Turns.{turn_takes, turn, turns, round, after, stops, PlaysTo, IsPlayed}
 use Rattle.delivery_core.specs.Shown.{IsCore}
-use Rattle.delivery_turns.specs.CoreTurns.{Leads, Turned, PlaysRound, Playing, is_over}
+use Rattle.delivery_turns.specs.CoreTurns.{LeadsCore, Turned, PlaysRound, Playing, is_over}
 use Rattle.delivery_core.proofs.RunLaws.{is_state}
 
 -- runs one after another
 pub run_join : (net mid : Network) (es fs : List Event) → run net es ≡ Some mid → run net (es ++ fs) ≡ run mid fs
 run_join net mid es fs so = fold-append happen (Some net) es fs ∙ ap (λ (o : Option Network). fold happen o fs) so
 
-pub leads_join : (p : Dcop) (net mid end : Network) (es fs : List Event) (s t : CoreView) → Leads p net es mid s → Leads p mid fs end t → Leads p net (es ++ fs) end t
+pub leads_join : (p : Dcop) (net mid end : Network) (es fs : List Event) (s t : CoreView) → LeadsCore p net es mid s → LeadsCore p mid fs end t → LeadsCore p net (es ++ fs) end t
 leads_join p net mid end es fs s t a b = record {
   ran = run_join net mid es fs a.ran ∙ b.ran;
   is = fold-append effect net es fs ∙ ap (λ (n : Network). fold effect n fs) a.is ∙ b.is;
@@ -56,7 +56,7 @@ turn_one : (net : Network) (k : ℕ) → length (turn net k) ≤ 1
 turn_one net k = let ts : List Take = turn_takes net k in one_event (length ts == 0) (record { agent = k; takes = ts })
 
 -- the turn of the next agent
-pub turned_next : (p : Dcop) (net : Network) (k : ℕ) (s t : CoreView) → (h : Turned p net k s) → (mid : Network) → Leads p h.mid (turn h.mid k) mid t → k < length p.sizes
+pub turned_next : (p : Dcop) (net : Network) (k : ℕ) (s t : CoreView) → (h : Turned p net k s) → (mid : Network) → LeadsCore p h.mid (turn h.mid k) mid t → k < length p.sizes
     → (now : Turned p net (k + 1) t) × (h.es ++ turn h.mid k ≡ now.es)
 turned_next p net k s t h mid leads lt =
     let fs : List Event = turn h.mid k in
@@ -76,11 +76,11 @@ turned_next p net k s t h mid leads lt =
     )
 
 -- the turns of all agents
-pub turned_all : (p : Dcop) (net : Network) (k : ℕ) (s : CoreView) → (h : Turned p net k s) → length p.sizes ≤ k → (mid : Network) × Leads p net (round net) mid s × (h.es ≡ round net)
+pub turned_all : (p : Dcop) (net : Network) (k : ℕ) (s : CoreView) → (h : Turned p net k s) → length p.sizes ≤ k → (mid : Network) × LeadsCore p net (round net) mid s × (h.es ≡ round net)
 turned_all p net k s h le =
     let none : length p.sizes - k ≡ 0 = omega (arith, le) in
     let all : round net ≡ h.es = h.left ∙ ap (λ (n : ℕ). h.es ++ turns h.mid (range_with_len k n)) none ∙ append-nil h.es in
-    (h.mid, subst (λ (es : List Event). Leads p net es h.mid s) (sym all) h.leads, sym all)
+    (h.mid, subst (λ (es : List Event). LeadsCore p net es h.mid s) (sym all) h.leads, sym all)
 
 capped : (b d m : ℕ) → b ≤ m → nat_le b (min d m) ≡ nat_le b d
 capped b d m le = elim (cases_lt d b) [

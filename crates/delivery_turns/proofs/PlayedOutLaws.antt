@@ -17,7 +17,7 @@ use Rattle.delivery_core.specs.State.{CoreView}
 use Rattle.delivery_core.specs.Shown.{IsCore}
 use Rattle.log_replay.specs.Notes.{NotesView, MayBeNotes, StartNotes, AreSomeNotes, MayBeLogBy}
 use Rattle.delivery_turns.specs.Sprints.{turn_share, PlaysSprints}
-use Rattle.delivery_turns.specs.PlayedOut.{HavePlayed}
+use Rattle.delivery_turns.specs.PlayedOut.{HavePlayedOut}
 use Rattle.delivery_turns.specs.declared.sprint.PlayedOut.{PlayedOut}
 use Rattle.delivery_core.specs.PlayedOut.{TellsOf}
 use Rattle.delivery_turns.proofs.DeliveredLaws.{none-taken}
@@ -59,7 +59,7 @@ module _ (p : Dcop) (budget : ℕ) (made : List View) (old new : CoreView) (a b 
   noted-some few = (p, made, all_in rounds, end, few, noted-end)
 
   -- what was played
-  pub have-played : (certified : Bool) (played : PlayedOut) → budget ≤ budget_limit → is_some a ≡ certified → TellsOf new played.outcome → is_some played.log ≡ is_some b → MayBeLogBy b played.log → HavePlayed budget made certified played
+  pub have-played : (certified : Bool) (played : PlayedOut) → budget ≤ budget_limit → is_some a ≡ certified → TellsOf new played.outcome → is_some played.log ≡ is_some b → MayBeLogBy b played.log → HavePlayedOut budget made certified played
   have-played certified played few asked tells logged log =
       let out = plays p (start_state made) core in
       record {

@@ -21,10 +21,10 @@ use Rattle.protocol_steps.specs.Rounds.{most_events, AreShares, IsRound, AreRoun
 use Rattle.delivery_core.specs.State.{CoreView}
 use Rattle.delivery_core.specs.NetworkState.{most_counted}
 use Rattle.delivery_core.specs.Takes.{TakeNothing}
-use Rattle.delivery_turns.specs.Turns.{turn_takes, event_with, turn, after, round, AreBusy, stops}
+use Rattle.delivery_turns.specs.Turns.{turn_takes, event_with, turn, after, round, AreEventfulRounds, stops}
 use Rattle.delivery_core.specs.Shown.{IsCore}
 use Rattle.log_replay.specs.Notes.{NotesView, KeepNotes}
-use Rattle.delivery_turns.specs.CoreTurns.{Leads, Turned, is_over}
+use Rattle.delivery_turns.specs.CoreTurns.{LeadsCore, Turned, is_over}
 use Rattle.delivery_turns.specs.Sprints.{agent_share, turn_share, none_of, NotesTurn, TakesAll, Turning, TakesTurns, Sprinting, PlaysSprint, Sprinted}
 use Rattle.delivery_turns.proofs.DeliveredLaws.{Delivers, turn-few, round-few}
 use Rattle.delivery_turns.proofs.RoundLaws.{journal-append, taken-append, event-one, turn-other, few-one, round-serves}
@@ -91,7 +91,7 @@ all_next p net from k s t a b c ts still le lt none h takes =
 
 -- all that are left take nothing
 pub all_end : (p : Dcop) (net : Network) (from : ℕ) (s : CoreView) (a b : Option NotesView) (still : Bool) → from ≤ length p.sizes → TakeNothing s.seats from (length p.sizes)
-    → (h : Turned p net from s) × (still ≡ none_of h.es) × KeepNotes p net h.es a b → (mid : Network) × Leads p net (round net) mid s × (still ≡ none_of (round net)) × KeepNotes p net (round net) a b
+    → (h : Turned p net from s) × (still ≡ none_of h.es) × KeepNotes p net h.es a b → (mid : Network) × LeadsCore p net (round net) mid s × (still ≡ none_of (round net)) × KeepNotes p net (round net) a b
 all_end p net from s a b still le none h =
     let size : ℕ = length p.sizes in
     let past = turned_past p net from (size - from) size s (omega (arith, le)) (omega arith) none h.0 in
@@ -127,7 +127,7 @@ turning_past p net from k s le h = (
 )
 
 -- the turn of one agent
-turning_one : (p : Dcop) (net : Network) (k : ℕ) (s t : CoreView) → length p.sizes ≤ 1000 → (h : Turning p net k s) → (mid : Network) → Leads p h.mid (turn h.mid k) mid t
+turning_one : (p : Dcop) (net : Network) (k : ℕ) (s t : CoreView) → length p.sizes ≤ 1000 → (h : Turning p net k s) → (mid : Network) → LeadsCore p h.mid (turn h.mid k) mid t
     → (now : Turning p net (k + 1) t) × (h.es ++ turn h.mid k ≡ now.es)
 turning_one p net k s t few h mid leads =
     let fs : List Event = turn h.mid k in
@@ -171,7 +171,7 @@ turning_next p net from k s t a b c ts still few le h takes =
     )
 
 pub turning_all : (p : Dcop) (net : Network) (k : ℕ) (s : CoreView) (a b : Option NotesView) (still : Bool) → k ≤ 1000 → (h : Turning p net k s) × (still ≡ none_of h.es) × KeepNotes p net h.es a b
-    → (es : List Event) × (mid : Network) × Leads p net es mid s × (still ≡ none_of es) × ((i : ℕ) → length (journal i es) ≤ 1) × (deliveries mid ≤ deliveries net + turn_share) × KeepNotes p net es a b
+    → (es : List Event) × (mid : Network) × LeadsCore p net es mid s × (still ≡ none_of es) × ((i : ℕ) → length (journal i es) ≤ 1) × (deliveries mid ≤ deliveries net + turn_share) × KeepNotes p net es a b
 turning_all p net k s a b still le h = (h.0.es, h.0.mid, h.0.leads, h.1, h.0.few, (let c = h.0.counted in omega (arith, c, le)), h.2)
 
 -- the first turn, of all agents
@@ -255,7 +255,7 @@ sprint_end p net k s t a b c still none is le from takes =
     sprint_all p net (k + 1) t a c still le (next.0, sym (ap (λ (x : Bool). still && x) is ∙ and_true still) ∙ next.1, next.2)
 
 -- rounds that are busy, and one more
-busy_snoc : (net mid : Network) (pieces : List (List Event)) (es : List Event) → after net (flat_map (λ fs. fs) pieces) ≡ mid → AreBusy net pieces → has_ended mid ≡ false → es ≢ [] → AreBusy net (pieces ++ es ∷ [])
+busy_snoc : (net mid : Network) (pieces : List (List Event)) (es : List Event) → after net (flat_map (λ fs. fs) pieces) ≡ mid → AreEventfulRounds net pieces → has_ended mid ≡ false → es ≢ [] → AreEventfulRounds net (pieces ++ es ∷ [])
 busy_snoc net mid [] es is busy awake some = (subst (λ (n : Network). has_ended n ≡ false) (sym is) awake, some, tt)
 busy_snoc net mid (fs ∷ pieces) es is busy awake some =
     (busy.0, busy.1, busy_snoc (after net fs) mid pieces es (sym (fold-append effect net fs (flat_map (λ gs. gs) pieces)) ∙ is) busy.2 awake some)
@@ -313,7 +313,7 @@ sprinted_next p budget first k s t a b c still le from over plays moved =
 -- playing stops
 pub sprints_stop : (p : Dcop) (budget : ℕ) (first : Network) (k : ℕ) (s : CoreView) (a b : Option NotesView) → (h : Sprinted p budget first k s) → KeepNotes p first (flat_map (λ es. es) h.pieces) a b → stops budget h.mid ≡ true
     → (pieces : List (List Event)) × (end : Network) × (how : RunEnd) × AreRounds budget first pieces end × IsRunEnd budget end how × IsCore p end s × (deliveries end ≤ deliveries first + budget + most_events * turn_share)
-    × KeepNotes p first (flat_map (λ es. es) pieces) a b × AreBusy first pieces × (length pieces ≤ budget)
+    × KeepNotes p first (flat_map (λ es. es) pieces) a b × AreEventfulRounds first pieces × (length pieces ≤ budget)
 sprints_stop p budget first k s a b h keep stop =
     let how = stopped-how budget h.mid (core_desks p h.mid s h.core) stop in
     (h.pieces, h.mid, how.0, h.are, how.1, h.core, h.counted, keep, h.busy, let played = h.played in let few = h.few in omega (arith, played, few))
@@ -322,7 +322,7 @@ sprints_stop p budget first k s a b h keep stop =
 pub sprints_still : (p : Dcop) (budget : ℕ) (first : Network) (k : ℕ) (s t : CoreView) (a b c : Option NotesView) (still : Bool) → (h : Sprinted p budget first k s) × KeepNotes p first (flat_map (λ es. es) h.pieces) a b
     → PlaysSprint s b t c still → still ≡ true
     → (pieces : List (List Event)) × (end : Network) × (how : RunEnd) × AreRounds budget first pieces end × IsRunEnd budget end how × IsCore p end t × (deliveries end ≤ deliveries first + budget + most_events * turn_share)
-    × KeepNotes p first (flat_map (λ es. es) pieces) a c × AreBusy first pieces × (length pieces ≤ budget)
+    × KeepNotes p first (flat_map (λ es. es) pieces) a c × AreEventfulRounds first pieces × (length pieces ≤ budget)
 sprints_still p budget first k s t a b c still from plays is =
     let h = from.0 in
     let played = plays p h.mid h.core in

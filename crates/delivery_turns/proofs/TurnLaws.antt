@@ -25,8 +25,8 @@ use Rattle.delivery_core.specs.SeatEvents.{seat_fault, core_fault}
 use Rattle.protocol_steps.specs.Rounds.{link_share, AreShares}
 use Rattle.delivery_turns.specs.Turns.{turn_takes, event_with, turn}
 use Rattle.delivery_core.specs.Takes.{seat_takes}
-use Rattle.delivery_turns.specs.CoreTurns.{Leads}
-use Rattle.delivery_core.specs.Shown.{Shows, IsCore}
+use Rattle.delivery_turns.specs.CoreTurns.{LeadsCore}
+use Rattle.delivery_core.specs.Shown.{ShowsNetwork, IsCore}
 use Rattle.delivery_core.proofs.NearLaws.{from_filter}
 use Rattle.delivery_core.proofs.ShownLaws.{there_is, view_there, waits_is, fault_same}
 use Rattle.delivery_core.proofs.ActLaws.{waits_of, seated}
@@ -167,7 +167,7 @@ seat_shares x = by_ended (ended_of x.view)
     by_ended true = All-nil IsShare
     by_ended false = inbox_shares x.inbox
 
-module _ (p : Dcop) (net : Network) (seats : List SeatView) (s : Shows p net seats) (i : ℕ) (x : SeatView) (here : slice_get seats i ≡ Some x) where
+module _ (p : Dcop) (net : Network) (seats : List SeatView) (s : ShowsNetwork p net seats) (i : ℕ) (x : SeatView) (here : slice_get seats i ≡ Some x) where
   inside : i < length seats
   inside = slice_get_within seats i x here
 
@@ -231,8 +231,8 @@ module _ (p : Dcop) (net : Network) (seats : List SeatView) (s : Shows p net sea
         omega (arith, after, one)
 
     -- so the turn leads on
-    pub turn_leads : (new : CoreView) → IsCore p (effect net e) new → (mid : Network) × Leads p net (turn net i) mid new
-    turn_leads new core = subst (λ (es : List Event). (mid : Network) × Leads p net es mid new) (sym turn_is) (
+    pub turn_leads : (new : CoreView) → IsCore p (effect net e) new → (mid : Network) × LeadsCore p net (turn net i) mid new
+    turn_leads new core = subst (λ (es : List Event). (mid : Network) × LeadsCore p net es mid new) (sym turn_is) (
       effect net e,
       record {
         ran = happens_next net e (fault_same p net seats s e ∙ turn_lawful);
@@ -248,14 +248,14 @@ module _ (p : Dcop) (net : Network) (seats : List SeatView) (s : Shows p net sea
   turn_none none = turn_by ∙ ap (λ (b : Bool). if b then [] else record { agent = i; takes = seat_takes x } ∷ []) none
 
 -- an agent that takes nothing has no event
-pub turn_still : (p : Dcop) (net : Network) (seats : List SeatView) → Shows p net seats → (i : ℕ) → i < length seats → ((d : SeatView) → seat_takes (slice_index_or seats i d) ≡ []) → turn net i ≡ []
+pub turn_still : (p : Dcop) (net : Network) (seats : List SeatView) → ShowsNetwork p net seats → (i : ℕ) → i < length seats → ((d : SeatView) → seat_takes (slice_index_or seats i d) ≡ []) → turn net i ≡ []
 turn_still p net seats s i lt none =
     let x = there_is seats i lt in
     let takes : seat_takes x.0 ≡ [] = sym (ap seat_takes (get_or_from_slice_get seats i x.0 x.0 x.1)) ∙ none x.0 in
     turn_none p net seats s i x.0 x.1 (ap (λ (ts : List Take). length ts == 0) takes)
 
-pub none_leads : (p : Dcop) (net : Network) (es : List Event) (s : CoreView) → IsCore p net s → es ≡ [] → (mid : Network) × Leads p net es mid s
-none_leads p net es s core none = subst (λ (fs : List Event). (mid : Network) × Leads p net fs mid s) (sym none) (net, record { ran = refl; is = refl; core = core; more = omega arith; bounded = All-nil (λ (e : Event). AreShares e.takes) })
+pub none_leads : (p : Dcop) (net : Network) (es : List Event) (s : CoreView) → IsCore p net s → es ≡ [] → (mid : Network) × LeadsCore p net es mid s
+none_leads p net es s core none = subst (λ (fs : List Event). (mid : Network) × LeadsCore p net fs mid s) (sym none) (net, record { ran = refl; is = refl; core = core; more = omega arith; bounded = All-nil (λ (e : Event). AreShares e.takes) })
 
 -- a turn has an event if something is taken
 some_event : (i : ℕ) (ts : List Take) (b : Bool) → (length {A = Event} (if b then [] else (record { agent = i; takes = ts } ∷ [])) == 0) ≡ b

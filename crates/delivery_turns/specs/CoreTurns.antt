@@ -15,7 +15,7 @@ use Rattle.delivery_core.specs.Shown.{IsCore}
 
 -- these events are a run from a network state to a core state; they take at least as many messages
 -- as there are events, and each takes at most 64 messages from one sender
-pub record Leads (p : Dcop) (net : Network) (es : List Event) (mid : Network) (s : CoreView) : Type 0 where
+pub record LeadsCore (p : Dcop) (net : Network) (es : List Event) (mid : Network) (s : CoreView) : Type 0 where
   pub ran : run net es ≡ Some mid
   pub is : after net es ≡ mid
   pub core : IsCore p mid s
@@ -24,25 +24,25 @@ pub record Leads (p : Dcop) (net : Network) (es : List Event) (mid : Network) (s
 
 -- the turn of agent k, which makes these takes, leads from one core state to another
 abbrev pub TakesTurn : ℕ → CoreView → CoreView → List Take → Type 0
-TakesTurn k old new ts = (p : Dcop) (net : Network) → IsCore p net old → (mid : Network) × Leads p net (turn net k) mid new × (turn net k ≡ event_with k ts)
+TakesTurn k old new ts = (p : Dcop) (net : Network) → IsCore p net old → (mid : Network) × LeadsCore p net (turn net k) mid new × (turn net k ≡ event_with k ts)
 
 -- the turn of agent k leads from one core state to another, and its event, if it has one, is
 -- appended to the events
 abbrev pub AddsTurn : ℕ → CoreView → List Event → CoreView → List Event → Type 0
-AddsTurn k old before new events = (p : Dcop) (net : Network) → IsCore p net old → (mid : Network) × Leads p net (turn net k) mid new × (events ≡ before ++ turn net k)
+AddsTurn k old before new events = (p : Dcop) (net : Network) → IsCore p net old → (mid : Network) × LeadsCore p net (turn net k) mid new × (events ≡ before ++ turn net k)
 
 -- the turns of the first k agents of a round lead to this core state, with at most one event each;
 -- the round has their events, followed by those of the turns that are left
 pub record Turned (p : Dcop) (net : Network) (k : ℕ) (s : CoreView) : Type 0 where
   pub es : List Event
   pub mid : Network
-  pub leads : Leads p net es mid s
+  pub leads : LeadsCore p net es mid s
   pub few : length es ≤ k
   pub left : round net ≡ es ++ turns mid (range_with_len k (length p.sizes - k))
 
 -- a round leads from one core state to another, and its events are appended to the events
 abbrev pub PlaysRound : CoreView → List Event → CoreView → List Event → Type 0
-PlaysRound old before new events = (p : Dcop) (net : Network) → IsCore p net old → (mid : Network) × Leads p net (round net) mid new × (events ≡ before ++ round net)
+PlaysRound old before new events = (p : Dcop) (net : Network) → IsCore p net old → (mid : Network) × LeadsCore p net (round net) mid new × (events ≡ before ++ round net)
 
 -- the events of the rounds so far lead to this core state, with at least k deliveries; if further
 -- rounds lead from there to a network at which playing stops, all rounds together lead there from

@@ -7,13 +7,13 @@ use Rattle.protocol_steps.specs.View.{View}
 use Rattle.protocol_steps.specs.Network.{start_state}
 use Rattle.protocol_steps.specs.Outcomes.{HaveRun}
 use Rattle.log_replay.specs.Notes.{IsLogOfRun}
-use Rattle.delivery_turns.specs.Turns.{AreBusy}
+use Rattle.delivery_turns.specs.Turns.{AreEventfulRounds}
 use Rattle.delivery_turns.specs.declared.sprint.PlayedOut.{PlayedOut}
 
 -- rounds of agents with these start views are at most `budget`; each began while some agent had not
 -- ended, and has an event
 pub record AreDueRounds (budget : ℕ) (made : List View) (rounds : List (List Event)) : Type 0 where
-  pub busy : AreBusy (start_state made) rounds
+  pub busy : AreEventfulRounds (start_state made) rounds
   pub few : length rounds ≤ budget
 
 -- agents with these start views have run in such rounds. Playing went on as long as some agent had not
@@ -24,7 +24,7 @@ pub record HaveDulyRun (budget : ℕ) (made : List View) (outcome : Outcome) : T
 
 -- agents with these start views have run under a budget to the network that the outcome describes;
 -- there is a log exactly when one is requested, and it is the log of exactly that run
-pub record HavePlayed (budget : ℕ) (made : List View) (certified : Bool) (played : PlayedOut) : Type 0 where
+pub record HavePlayedOut (budget : ℕ) (made : List View) (certified : Bool) (played : PlayedOut) : Type 0 where
   pub run : HaveRun budget made played.outcome
   pub due : AreDueRounds budget made run.rounds
   pub asked : is_some played.log ≡ certified

@@ -13,8 +13,8 @@ use Rattle.protocol_steps.specs.Run.{journal}
 use Rattle.protocol_steps.specs.RunEnds.{IsRunEnd}
 use Rattle.protocol_steps.specs.Rounds.{most_events, link_share, taken_in, AreRounds}
 use Rattle.delivery_core.specs.State.{CoreView}
-use Rattle.delivery_turns.specs.Turns.{event_with, turn, round, AreBusy}
-use Rattle.delivery_turns.specs.CoreTurns.{Leads}
+use Rattle.delivery_turns.specs.Turns.{event_with, turn, round, AreEventfulRounds}
+use Rattle.delivery_turns.specs.CoreTurns.{LeadsCore}
 use Rattle.delivery_core.specs.Shown.{IsCore}
 use Rattle.log_replay.specs.Notes.{NotesView, MayBeNotes, KeepNotes}
 
@@ -47,19 +47,19 @@ run_room budget = budget + most_events * turn_share + round_room
 -- event, if it has one, is noted
 abbrev pub NotesTurn : ℕ → CoreView → Option NotesView → CoreView → Option NotesView → List Take → Type 0
 NotesTurn k old notes new noted ts =
-    (p : Dcop) (net : Network) → IsCore p net old → (mid : Network) × Leads p net (turn net k) mid new × (turn net k ≡ event_with k ts) × KeepNotes p net (turn net k) notes noted
+    (p : Dcop) (net : Network) → IsCore p net old → (mid : Network) × LeadsCore p net (turn net k) mid new × (turn net k ≡ event_with k ts) × KeepNotes p net (turn net k) notes noted
 
 -- the turns of all agents lead from one core state to another, and their events are noted; `still`
 -- says whether they have no event
 abbrev pub TakesAll : CoreView → Option NotesView → CoreView → Option NotesView → Bool → Type 0
 TakesAll old notes new noted still =
-    (p : Dcop) (net : Network) → IsCore p net old → (mid : Network) × Leads p net (round net) mid new × (still ≡ none_of (round net)) × KeepNotes p net (round net) notes noted
+    (p : Dcop) (net : Network) → IsCore p net old → (mid : Network) × LeadsCore p net (round net) mid new × (still ≡ none_of (round net)) × KeepNotes p net (round net) notes noted
 
 -- turns of agents below agent `from`, each at most once, lead from a network to a core state
 pub record Turning (p : Dcop) (net : Network) (from : ℕ) (s : CoreView) : Type 0 where
   pub es : List Event
   pub mid : Network
-  pub leads : Leads p net es mid s
+  pub leads : LeadsCore p net es mid s
   pub few : (i : ℕ) → length (journal i es) ≤ 1
   pub none : (i : ℕ) → from ≤ i → length (journal i es) ≡ 0
   pub counted : deliveries mid ≤ deliveries net + from * agent_share
@@ -69,7 +69,7 @@ pub record Turning (p : Dcop) (net : Network) (from : ℕ) (s : CoreView) : Type
 abbrev pub TakesTurns : CoreView → Option NotesView → CoreView → Option NotesView → Bool → Type 0
 TakesTurns old notes new noted still =
     (p : Dcop) (net : Network) → IsCore p net old
-    → (es : List Event) × (mid : Network) × Leads p net es mid new × (still ≡ none_of es) × ((i : ℕ) → length (journal i es) ≤ 1) × (deliveries mid ≤ deliveries net + turn_share)
+    → (es : List Event) × (mid : Network) × LeadsCore p net es mid new × (still ≡ none_of es) × ((i : ℕ) → length (journal i es) ≤ 1) × (deliveries mid ≤ deliveries net + turn_share)
     × KeepNotes p net es notes noted
 
 -- turns lead from a network to this core state, at most k of each agent; they took from each link
@@ -78,7 +78,7 @@ TakesTurns old notes new noted still =
 pub record Sprinting (p : Dcop) (net : Network) (k : ℕ) (s : CoreView) : Type 0 where
   pub events : List Event
   pub mid : Network
-  pub leads : Leads p net events mid s
+  pub leads : LeadsCore p net events mid s
   pub few : (i : ℕ) → length (journal i events) ≤ k
   pub served : (i j : ℕ) → min link_share (length (pending net i j)) ≤ taken_in i j events
   pub counted : deliveries mid ≤ deliveries net + k * turn_share
@@ -96,7 +96,7 @@ pub record Sprinted (p : Dcop) (budget : ℕ) (first : Network) (k : ℕ) (s : C
   pub pieces : List (List Event)
   pub mid : Network
   pub are : AreRounds budget first pieces mid
-  pub busy : AreBusy first pieces
+  pub busy : AreEventfulRounds first pieces
   pub played : length pieces ≡ k
   pub few : k ≤ budget
   pub core : IsCore p mid s
@@ -109,4 +109,4 @@ abbrev pub PlaysSprints : ℕ → CoreView → Option NotesView → CoreView →
 PlaysSprints budget old notes new noted =
     (p : Dcop) (first : Network) → IsCore p first old
     → (pieces : List (List Event)) × (end : Network) × (how : RunEnd) × AreRounds budget first pieces end × IsRunEnd budget end how × IsCore p end new
-    × (deliveries end ≤ deliveries first + budget + most_events * turn_share) × KeepNotes p first (flat_map (λ es. es) pieces) notes noted × AreBusy first pieces × (length pieces ≤ budget)
+    × (deliveries end ≤ deliveries first + budget + most_events * turn_share) × KeepNotes p first (flat_map (λ es. es) pieces) notes noted × AreEventfulRounds first pieces × (length pieces ≤ budget)

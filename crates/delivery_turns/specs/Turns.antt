@@ -41,9 +41,9 @@ abbrev pub stops : ℕ → Network → Bool
 stops budget net = has_ended net || nat_le budget (deliveries net) || (length (round net) == 0)
 
 -- each of these rounds began while some agent had not ended, and has an event
-abbrev pub AreBusy : Network → List (List Event) → Type 0
-AreBusy net [] = Unit {0}
-AreBusy net (es ∷ rounds) = (has_ended net ≡ false) × (es ≢ []) × AreBusy (after net es) rounds
+abbrev pub AreEventfulRounds : Network → List (List Event) → Type 0
+AreEventfulRounds net [] = Unit {0}
+AreEventfulRounds net (es ∷ rounds) = (has_ended net ≡ false) × (es ≢ []) × AreEventfulRounds (after net es) rounds
 
 -- these are the events of rounds, round by round, that lead from one network to another; playing
 -- does not stop before any of them, and stops at the end

@@ -6,7 +6,7 @@ ghost use Rattle.protocol_steps.specs.Outcomes.{HaveRun};
 ghost use Rattle.protocol_steps.specs.Rounds.{most_events};
 ghost use Rattle.delivery_core.specs.Agents.{IsStartFor, agents_of};
 ghost use Rattle.delivery_turns.specs.Sprints.{turn_share, round_room, run_room, IsSomeNoted, NotesTurn, TakesAll, TakesTurns, PlaysSprint, PlaysSprints};
-ghost use Rattle.delivery_turns.specs.PlayedOut.{HaveDulyRun, HavePlayed};
+ghost use Rattle.delivery_turns.specs.PlayedOut.{HaveDulyRun, HavePlayedOut};
 
 use crate::turn::{is_over, take_turn};
 use dcop_base::{NoMemory, Problem, VarId, problem_is_whole};
@@ -178,7 +178,7 @@ pub fn play_out_logged<G: Gate>(
 ) -> Result<PlayedOut, NoMemory>
     requires start { IsStartFor problem.now start.now }
     requires budget { budget ≤ budget_limit }
-    ensures { IfOk result (HavePlayed budget (agents_of problem.now start.now) certified) }
+    ensures { IfOk result (HavePlayedOut budget (agents_of problem.now start.now) certified) }
 {
     problem_is_whole(problem);
     let mut state = CoreState::start(alloc, problem, start)?;

@@ -22,12 +22,12 @@ use Rattle.dpop_agent.specs.Keeping.{keeping}
 use Rattle.dcop_base.specs.Limits.{joined_limit}
 use Rattle.dpop_agent.specs.Joint.{IsUtilWhereMay}
 use Rattle.dpop_agent.specs.Sound.{IsSound}
-use Rattle.dpop_agent.specs.Deed.{Gives, parcels_up}
+use Rattle.dpop_agent.specs.Deed.{GivesDpopStep, parcels_up}
 use Rattle.dpop_agent.proofs.ParcelLaws.{values_sent}
 
 decided_at : (own : Private) (place : Place) (stage : Stage) (kept : List (Option CostTable)) (made : Option CostTable) (value : ℕ) (values : Context) (best : ℕ) (before parcels : List (ℕ × Message))
     → phase_at stage ≡ working → best ≡ best_value (keeping own place kept) (valued values) → parcels ≡ before ++ values_sent (with_own own.me best (valued values)) place.children kept
-    → Gives (decide (view_at own place stage kept made value) values) (view_at own place Ended kept made best) before parcels
+    → GivesDpopStep (decide (view_at own place stage kept made value) values) (view_at own place Ended kept made best) before parcels
 decided_at own place stage kept made value values best before parcels phase is sends =
     let ends : phase_at Ended ≡ record (phase_at stage) { ended = true } = ap (λ (p : Phase). let q : Phase = record p { ended = true } in q) (sym phase) in
     record {
@@ -39,9 +39,9 @@ decided_at own place stage kept made value values best before parcels phase is s
 pub decided : (own : Private) (place : Place) (stage : Stage) (kept now : List (Option CostTable)) (made : Option CostTable) (value : ℕ) (v : DpopView) (values : Context) (best : ℕ) (children : List ℕ) (before parcels : List (ℕ × Message))
     → view_at own place stage kept made value ≡ v → v.phase ≡ working → now ≡ kept → children ≡ place.children
     → best ≡ best_value (keeping own place now) (valued values) → parcels ≡ before ++ values_sent (with_own own.me best (valued values)) children now
-    → Gives (decide v values) (view_at own place Ended kept made best) before parcels
+    → GivesDpopStep (decide v values) (view_at own place Ended kept made best) before parcels
 decided own place stage kept now made value v values best children before parcels view phase same below is sends =
-    subst (λ (w : DpopView). Gives (decide w values) (view_at own place Ended kept made best) before parcels) view
+    subst (λ (w : DpopView). GivesDpopStep (decide w values) (view_at own place Ended kept made best) before parcels) view
     (decided_at own place stage kept made value values best before parcels (ap (λ (w : DpopView). w.phase) view ∙ phase)
     (is ∙ ap (λ (es : List (Option CostTable)). best_value (keeping own place es) (valued values)) same)
     (sends ∙ ap₂ (λ (cs : List ℕ) (es : List (Option CostTable)). before ++ values_sent (with_own own.me best (valued values)) cs es) below same))
@@ -77,26 +77,26 @@ may_not v (Some t) tried none = absurd (none t refl)
 
 -- what joining gives an agent that may not join: nothing
 pub joins_not : (own : Private) (place : Place) (stage : Stage) (kept now : List (Option CostTable)) (made : Option CostTable) (value : ℕ) (v : DpopView) (before parcels : List (ℕ × Message))
-    → view_at own place stage kept made value ≡ v → now ≡ kept → can_join (keeping own place now) ≡ false → parcels ≡ before → Gives (join v) v before parcels
+    → view_at own place stage kept made value ≡ v → now ≡ kept → can_join (keeping own place now) ≡ false → parcels ≡ before → GivesDpopStep (join v) v before parcels
 joins_not own place stage kept now made value v before parcels view same cannot none =
     let w : DpopView = view_at own place stage kept made value in
     let u : CostTable = util_table w in
     let after : DpopView = record w { made = Some u } in
     let here : can_join (keeping own place kept) ≡ false = subst (λ (es : List (Option CostTable)). can_join (keeping own place es) ≡ false) same cannot in
-    subst (λ (x : DpopView). Gives (join x) x before parcels) view
-    (subst (λ (b : Bool). Gives (cond b (send_up after u (last_of place.path)) (quiet w)) w before parcels) (sym here) (record { viewed = refl; sent = none ∙ sym (append-nil before) }))
+    subst (λ (x : DpopView). GivesDpopStep (join x) x before parcels) view
+    (subst (λ (b : Bool). GivesDpopStep (cond b (send_up after u (last_of place.path)) (quiet w)) w before parcels) (sym here) (record { viewed = refl; sent = none ∙ sym (append-nil before) }))
 
 joins_at : (own : Private) (place : Place) (stage : Stage) (kept : List (Option CostTable)) (made : Option CostTable) (value : ℕ) (t : CostTable) (before parcels : List (ℕ × Message)) (parent : Option ℕ)
     → can_join (keeping own place kept) ≡ true → t ≡ util_table (keeping own place kept) → last_of place.path ≡ parent → is_some parent ≡ true → parcels ≡ before ++ parcels_up parent t
-    → Gives (join (view_at own place stage kept made value)) (view_at own place stage kept (Some t) value) before parcels
+    → GivesDpopStep (join (view_at own place stage kept made value)) (view_at own place stage kept (Some t) value) before parcels
 joins_at own place stage kept made value t before parcels None can is last some sends = absurd (false≢true some)
 joins_at own place stage kept made value t before parcels (Some parent) can is last some sends =
     let v : DpopView = view_at own place stage kept made value in
     let u : CostTable = util_table v in
     let w : DpopView = record v { made = Some u } in
     let after : DpopView = view_at own place stage kept (Some t) value in
-    subst (λ (b : Bool). Gives (cond b (send_up w u (last_of place.path)) (quiet v)) after before parcels) (sym can)
-    (subst (λ (o : Option ℕ). Gives (send_up w u o) after before parcels) (sym last)
+    subst (λ (b : Bool). GivesDpopStep (cond b (send_up w u (last_of place.path)) (quiet v)) after before parcels) (sym can)
+    (subst (λ (o : Option ℕ). GivesDpopStep (send_up w u o) after before parcels) (sym last)
     (record {
       viewed = ap (λ (s : CostTable). view_at own place stage kept (Some s) value) is;
       sent = sends ∙ ap (λ (s : CostTable). before ++ parcels_up (Some parent) s) is;
@@ -105,9 +105,9 @@ joins_at own place stage kept made value t before parcels (Some parent) can is l
 -- what joining gives an agent with a parent
 pub joins : (own : Private) (place : Place) (stage : Stage) (kept now : List (Option CostTable)) (made : Option CostTable) (value : ℕ) (v : DpopView) (t : CostTable) (path : List ℕ) (before parcels : List (ℕ × Message))
     → view_at own place stage kept made value ≡ v → now ≡ kept → path ≡ place.path → can_join (keeping own place now) ≡ true → t ≡ util_table (keeping own place now) → is_some (last_of path) ≡ true → parcels ≡ before ++ parcels_up (last_of path) t
-    → Gives (join v) (view_at own place stage kept (Some t) value) before parcels
+    → GivesDpopStep (join v) (view_at own place stage kept (Some t) value) before parcels
 joins own place stage kept now made value v t path before parcels view same above can is some sends =
-    subst (λ (w : DpopView). Gives (join w) (view_at own place stage kept (Some t) value) before parcels) view
+    subst (λ (w : DpopView). GivesDpopStep (join w) (view_at own place stage kept (Some t) value) before parcels) view
     (joins_at own place stage kept made value t before parcels (last_of path)
     (subst (λ (es : List (Option CostTable)). can_join (keeping own place es) ≡ true) same can)
     (is ∙ ap (λ (es : List (Option CostTable)). util_table (keeping own place es)) same)
@@ -138,26 +138,26 @@ copied_some (Some x) = refl
 
 root_at : (own : Private) (place : Place) (stage : Stage) (kept : List (Option CostTable)) (made : Option CostTable) (value : ℕ) (t : CostTable) (after : DpopView) (before up parcels : List (ℕ × Message)) (parent : Option ℕ)
     → can_join (keeping own place kept) ≡ true → t ≡ util_table (keeping own place kept) → last_of place.path ≡ parent → is_some parent ≡ false → up ≡ before ++ parcels_up parent t
-    → Gives (decide (view_at own place stage kept (Some t) value) []) after up parcels → Gives (join (view_at own place stage kept made value)) after before parcels
+    → GivesDpopStep (decide (view_at own place stage kept (Some t) value) []) after up parcels → GivesDpopStep (join (view_at own place stage kept made value)) after before parcels
 root_at own place stage kept made value t after before up parcels (Some parent) can is last none rises gives = absurd (false≢true (sym none))
 root_at own place stage kept made value t after before up parcels None can is last none rises gives =
     let v : DpopView = view_at own place stage kept made value in
     let u : CostTable = util_table v in
     let w : DpopView = record v { made = Some u } in
-    subst (λ (b : Bool). Gives (cond b (send_up w u (last_of place.path)) (quiet v)) after before parcels) (sym can)
-    (subst (λ (o : Option ℕ). Gives (send_up w u o) after before parcels) (sym last)
-    (subst (λ (s : CostTable). Gives (decide (view_at own place stage kept (Some s) value) []) after before parcels) is
-    (subst (λ (ps : List (ℕ × Message)). Gives (decide (view_at own place stage kept (Some t) value) []) after ps parcels) (rises ∙ append-nil before) gives)))
+    subst (λ (b : Bool). GivesDpopStep (cond b (send_up w u (last_of place.path)) (quiet v)) after before parcels) (sym can)
+    (subst (λ (o : Option ℕ). GivesDpopStep (send_up w u o) after before parcels) (sym last)
+    (subst (λ (s : CostTable). GivesDpopStep (decide (view_at own place stage kept (Some s) value) []) after before parcels) is
+    (subst (λ (ps : List (ℕ × Message)). GivesDpopStep (decide (view_at own place stage kept (Some t) value) []) after ps parcels) (rises ∙ append-nil before) gives)))
 
 -- what joining gives the root, which decides at once
 pub root_joins : (own : Private) (place : Place) (stage : Stage) (kept now : List (Option CostTable)) (made : Option CostTable) (value : ℕ) (v w : DpopView) (t : CostTable) (path : List ℕ) (values : Context) (after : DpopView) (before up parcels : List (ℕ × Message))
     → view_at own place stage kept made value ≡ v → now ≡ kept → path ≡ place.path → can_join (keeping own place now) ≡ true → t ≡ util_table (keeping own place now) → is_some (last_of path) ≡ false → up ≡ before ++ parcels_up (last_of path) t
-    → view_at own place stage kept (Some t) value ≡ w → values ≡ [] → Gives (decide w values) after up parcels → Gives (join v) after before parcels
+    → view_at own place stage kept (Some t) value ≡ w → values ≡ [] → GivesDpopStep (decide w values) after up parcels → GivesDpopStep (join v) after before parcels
 root_joins own place stage kept now made value v w t path values after before up parcels view same above can is none rises waits empty gives =
-    subst (λ (x : DpopView). Gives (join x) after before parcels) view
+    subst (λ (x : DpopView). GivesDpopStep (join x) after before parcels) view
     (root_at own place stage kept made value t after before up parcels (last_of path)
     (subst (λ (es : List (Option CostTable)). can_join (keeping own place es) ≡ true) same can)
     (is ∙ ap (λ (es : List (Option CostTable)). util_table (keeping own place es)) same)
     (ap last_of (sym above)) none rises
-    (subst (λ (c : Context). Gives (decide (view_at own place stage kept (Some t) value) c) after up parcels) empty
-    (subst (λ (x : DpopView). Gives (decide x values) after up parcels) (sym waits) gives)))
+    (subst (λ (c : Context). GivesDpopStep (decide (view_at own place stage kept (Some t) value) c) after up parcels) empty
+    (subst (λ (x : DpopView). GivesDpopStep (decide x values) after up parcels) (sym waits) gives)))

@@ -18,14 +18,14 @@ use Rattle.protocol_steps.proofs.ParcelLaws.{parcels_go_to_neighbours}
 use Rattle.dpop_agent.specs.declared.stage.Stage.{Stage}
 use Rattle.dpop_agent.specs.declared.stage.Stage.TheVariants.{Waiting, Working, Ended, Failed}
 use Rattle.dpop_agent.specs.Stage.{phase_at}
-use Rattle.dpop_agent.specs.Deed.{Gives}
+use Rattle.dpop_agent.specs.Deed.{GivesDpopStep}
 use Rattle.dpop_agent.proofs.OverLaws.{had_of}
 
 -- what is handled so far leads, with the letters that are left, to the step on all letters
 pub record Leads (start : DpopView) (all : List (ℕ × Message)) (view : DpopView) (sends rest : List (ℕ × Message)) : Type 0 where
   pub leads : fold (next_letter dpop_message) (record { view = view; sends = sends }) rest ≡ dpop_step start all
 
-pub leads_on : (start : DpopView) (all : List (ℕ × Message)) (k : ℕ) (letter : ℕ × Message) (view after : DpopView) (sends more : List (ℕ × Message)) → k < length all → letter ≡ get_or all k letter → Leads start all view sends (drop k all) → Gives (dpop_message view letter.0 letter.1) after sends more → Leads start all after more (drop (k + 1) all)
+pub leads_on : (start : DpopView) (all : List (ℕ × Message)) (k : ℕ) (letter : ℕ × Message) (view after : DpopView) (sends more : List (ℕ × Message)) → k < length all → letter ≡ get_or all k letter → Leads start all view sends (drop k all) → GivesDpopStep (dpop_message view letter.0 letter.1) after sends more → Leads start all after more (drop (k + 1) all)
 leads_on start all k letter view after sends more lt e l g =
     let F : List (ℕ × Message) → Stepped DpopView = fold (next_letter dpop_message) (record { view = view; sends = sends }) in
     let first = sym (at_drop_more F all k letter lt) ∙ l.leads in
@@ -58,11 +58,11 @@ pub stands_beside : (v : DpopView) → IsPlaceFor v.own v.place → IsBeside (Dp
 stands_beside v placed = (placed.parent, children_near v.own.neighbours v.place.lower v.place.children placed.lower.1 placed.children.1)
 
 -- the start of a DPOP agent is that of a machine, and reaches neighbours
-pub is_start : (v w : DpopView) (ps : List (ℕ × Message)) → Gives (dpop_start v) w [] ps → IsStart (DpopKind v) (DpopKind w) ps
+pub is_start : (v w : DpopView) (ps : List (ℕ × Message)) → GivesDpopStep (dpop_start v) w [] ps → IsStart (DpopKind v) (DpopKind w) ps
 unfolding start_of
 is_start v w ps g = record { viewed = ap (λ (x : DpopView). DpopKind x) g.viewed; sent = g.sent }
 
-pub start_reaches : (v w : DpopView) (ps : List (ℕ × Message)) → IsBeside (DpopKind v) → Gives (dpop_start v) w [] ps → All (IsToNeighbour (DpopKind v)) ps
+pub start_reaches : (v w : DpopView) (ps : List (ℕ × Message)) → IsBeside (DpopKind v) → GivesDpopStep (dpop_start v) w [] ps → All (IsToNeighbour (DpopKind v)) ps
 unfolding start_of
 start_reaches v w ps beside g = All-same (IsToNeighbour (DpopKind v)) ps (dpop_start v).sends g.sent (parcels_go_to_neighbours.started (DpopKind v) beside).receivers
 

@@ -22,7 +22,7 @@ use Rattle.protocol_steps.specs.Values.{valued}
 use Rattle.protocol_steps.specs.Dpop.{DpopView, there, joined_cost, best_value, size_of, separator, kept_scopes, joined_cells_with}
 use Rattle.protocol_steps.specs.Placing.{IsPlaceFor}
 use Rattle.protocol_steps.specs.Knowledge.{IsSize, known_sizes}
-use Rattle.dpop_agent.specs.Keeping.{AreApart, keeping, IsChildTable, MayKeep}
+use Rattle.dpop_agent.specs.Keeping.{AreOffPath, keeping, IsChildTable, MayKeep}
 use Rattle.dpop_agent.specs.Joint.{IsCostOf, IsZeroOver, IsZeroWhereNarrow, over_of, over_sizes}
 use Rattle.dpop_agent.specs.Sound.{IsKeeper}
 
@@ -142,10 +142,10 @@ all_where q (x ∷ xs) u all h =
     ]
 
 -- none of the lower neighbours stands in the path
-pub lower_apart : (own : Private) (place : Place) → IsPlaceFor own place → AreApart place.lower place.path
+pub lower_apart : (own : Private) (place : Place) → IsPlaceFor own place → AreOffPath place.lower place.path
 lower_apart own place placed u lower = placed.split u (had_of (λ u. has own.neighbours u ≡ true) place.lower u placed.lower.1 lower) ∙ ap not lower
 
-pub apart_still : (own : Private) (place : Place) → IsPlaceFor own place → (lower path : List ℕ) → lower ≡ place.lower → path ≡ place.path → AreApart lower path
+pub apart_still : (own : Private) (place : Place) → IsPlaceFor own place → (lower path : List ℕ) → lower ≡ place.lower → path ≡ place.path → AreOffPath lower path
 apart_still own place placed lower path same_lower same_path u h =
     ap (λ (vs : List ℕ). has vs u) same_path ∙ lower_apart own place placed u (sym (ap (λ (vs : List ℕ). has vs u) same_lower) ∙ h)
 

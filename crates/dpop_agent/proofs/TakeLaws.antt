@@ -27,7 +27,7 @@ use Rattle.dpop_agent.specs.declared.stage.Stage.TheVariants.{Waiting, Working, 
 use Rattle.dpop_agent.specs.Stage.{phase_at, view_at, working}
 use Rattle.dpop_agent.specs.Keeping.{keeping, IsChildTable, MayKeep}
 use Rattle.dpop_agent.specs.Sound.{IsKeeper, IsMade, IsSound}
-use Rattle.dpop_agent.specs.Deed.{Gives, IsTaken}
+use Rattle.dpop_agent.specs.Deed.{GivesDpopStep, IsTableTaken}
 use Rattle.dpop_agent.specs.Joint.{IsOver}
 use Rattle.dpop_agent.specs.declared.separator.Over.{Over}
 use Rattle.std.specs.Option.{IfSome}
@@ -151,7 +151,7 @@ not_made own place kept (Some t) util none = absurd (both_ways (list_all is_some
 
 -- an agent that keeps a table that is taken stays sound
 pub keeps_sound : (own : Private) (place : Place) (stage : Stage) (kept : List (Option CostTable)) (made : Option CostTable) (k : ℕ) (scope cells : List ℕ) (t : CostTable) → IsSound own place stage kept made
-    → IsTaken (keeping own place kept) k scope cells (Some t) → IsSound own place stage (slice_set kept k (Some t)) made
+    → IsTableTaken (keeping own place kept) k scope cells (Some t) → IsSound own place stage (slice_set kept k (Some t)) made
 keeps_sound own place stage kept made k scope cells t sound taken =
     let none = not_made own place kept made sound.util (not_all kept k (passed own place kept k scope cells taken.0).free) in
     record {
@@ -184,35 +184,35 @@ is_of_parts t scope sizes cells parts =
     ∙ ap (λ (cs : List ℕ). let u : CostTable = record { scope = scope; sizes = sizes; cells = cs } in u) parts.2
 
 takes_at : (own : Private) (place : Place) (stage : Stage) (kept : List (Option CostTable)) (made : Option CostTable) (value k : ℕ) (scope cells : List ℕ) (t : CostTable) (after : DpopView) (before parcels : List (ℕ × Message))
-    → IsTaken (keeping own place kept) k scope cells (Some t) → Gives (join (view_at own place stage (slice_set kept k (Some t)) made value)) after before parcels
-    → Gives (take_util (view_at own place stage kept made value) (Some k) scope cells) after before parcels
+    → IsTableTaken (keeping own place kept) k scope cells (Some t) → GivesDpopStep (join (view_at own place stage (slice_set kept k (Some t)) made value)) after before parcels
+    → GivesDpopStep (take_util (view_at own place stage kept made value) (Some k) scope cells) after before parcels
 takes_at own place stage kept made value k scope cells t after before parcels taken gives =
     let v : DpopView = view_at own place stage kept made value in
-    subst (λ (b : Bool). Gives (cond b (join (with_table v k scope cells)) (quiet v)) after before parcels) (sym taken.0)
-    (subst (λ (u : CostTable). Gives (join (view_at own place stage (slice_set kept k (Some u)) made value)) after before parcels) (is_of_parts t scope (map (size_of v) scope) cells taken.1) gives)
+    subst (λ (b : Bool). GivesDpopStep (cond b (join (with_table v k scope cells)) (quiet v)) after before parcels) (sym taken.0)
+    (subst (λ (u : CostTable). GivesDpopStep (join (view_at own place stage (slice_set kept k (Some u)) made value)) after before parcels) (is_of_parts t scope (map (size_of v) scope) cells taken.1) gives)
 
 -- what a child's table gives that is taken
 pub takes : (own : Private) (place : Place) (stage : Stage) (kept : List (Option CostTable)) (made : Option CostTable) (value : ℕ) (v : DpopView) (from k : ℕ) (scope cells : List ℕ) (t : CostTable) (after : DpopView) (before parcels : List (ℕ × Message))
-    → view_at own place stage kept made value ≡ v → position (λ c. eqb c from) place.children ≡ Some k → IsTaken (keeping own place kept) k scope cells (Some t)
-    → Gives (join (view_at own place stage (slice_set kept k (Some t)) made value)) after before parcels → Gives (dpop_message v from (Util scope cells)) after before parcels
+    → view_at own place stage kept made value ≡ v → position (λ c. eqb c from) place.children ≡ Some k → IsTableTaken (keeping own place kept) k scope cells (Some t)
+    → GivesDpopStep (join (view_at own place stage (slice_set kept k (Some t)) made value)) after before parcels → GivesDpopStep (dpop_message v from (Util scope cells)) after before parcels
 takes own place stage kept made value v from k scope cells t after before parcels view found taken gives =
-    subst (λ (w : DpopView). Gives (dpop_message w from (Util scope cells)) after before parcels) view
-    (subst (λ (o : Option ℕ). Gives (take_util (view_at own place stage kept made value) o scope cells) after before parcels) (sym found)
+    subst (λ (w : DpopView). GivesDpopStep (dpop_message w from (Util scope cells)) after before parcels) view
+    (subst (λ (o : Option ℕ). GivesDpopStep (take_util (view_at own place stage kept made value) o scope cells) after before parcels) (sym found)
     (takes_at own place stage kept made value k scope cells t after before parcels taken gives))
 
 -- a table that is not there was not taken
-pub untaken : (v : DpopView) (k : ℕ) (scope cells : List ℕ) (o : Option CostTable) → IsTaken v k scope cells o → ((t : CostTable) → o ≡ Some t → ⊥) → takes_util v k scope cells ≡ false
+pub untaken : (v : DpopView) (k : ℕ) (scope cells : List ℕ) (o : Option CostTable) → IsTableTaken v k scope cells o → ((t : CostTable) → o ≡ Some t → ⊥) → takes_util v k scope cells ≡ false
 untaken v k scope cells None tried none = tried
 untaken v k scope cells (Some t) tried none = absurd (none t refl)
 
 -- what a child's table gives that is not taken: nothing
 pub passes_over : (own : Private) (place : Place) (stage : Stage) (kept : List (Option CostTable)) (made : Option CostTable) (value : ℕ) (v : DpopView) (from k : ℕ) (scope cells : List ℕ) (before parcels : List (ℕ × Message))
-    → view_at own place stage kept made value ≡ v → position (λ c. eqb c from) place.children ≡ Some k → takes_util (keeping own place kept) k scope cells ≡ false → parcels ≡ before → Gives (dpop_message v from (Util scope cells)) v before parcels
+    → view_at own place stage kept made value ≡ v → position (λ c. eqb c from) place.children ≡ Some k → takes_util (keeping own place kept) k scope cells ≡ false → parcels ≡ before → GivesDpopStep (dpop_message v from (Util scope cells)) v before parcels
 passes_over own place stage kept made value v from k scope cells before parcels view found not_taken none =
-    subst (λ (w : DpopView). Gives (dpop_message w from (Util scope cells)) w before parcels) view
+    subst (λ (w : DpopView). GivesDpopStep (dpop_message w from (Util scope cells)) w before parcels) view
     (let w : DpopView = view_at own place stage kept made value in
-    subst (λ (o : Option ℕ). Gives (take_util w o scope cells) w before parcels) (sym found)
-    (subst (λ (b : Bool). Gives (cond b (join (with_table w k scope cells)) (quiet w)) w before parcels) (sym not_taken) (record { viewed = refl; sent = none ∙ sym (append-nil before) })))
+    subst (λ (o : Option ℕ). GivesDpopStep (take_util w o scope cells) w before parcels) (sym found)
+    (subst (λ (b : Bool). GivesDpopStep (cond b (join (with_table w k scope cells)) (quiet w)) w before parcels) (sym not_taken) (record { viewed = refl; sent = none ∙ sym (append-nil before) })))
 
 -- whether a variable stands in a kept table, after one more is kept at a place that was free
 stands_more : (kept : List (Option CostTable)) (k : ℕ) (t : CostTable) (u : ℕ) → k < length kept → get_or kept k None ≡ None → stands_kept (slice_set kept k (Some t)) u ≡ (has t.scope u || stands_kept kept u)
@@ -229,7 +229,7 @@ stands_more (Some s ∷ es) (suc k) t u lt free = ap (λ (b : Bool). has s.scope
     swapped false false c = refl
 
 -- the variables of the joined table where a table's scope counted as kept are those where it is kept
-pub known_after : (own : Private) (place : Place) (stage : Stage) (kept : List (Option CostTable)) (made : Option CostTable) (value k : ℕ) (scope cells : List ℕ) (t : CostTable) (over : Over) → IsTaken (keeping own place kept) k scope cells (Some t)
+pub known_after : (own : Private) (place : Place) (stage : Stage) (kept : List (Option CostTable)) (made : Option CostTable) (value k : ℕ) (scope cells : List ℕ) (t : CostTable) (over : Over) → IsTableTaken (keeping own place kept) k scope cells (Some t)
     → over.vars ≡ separator_with (keeping own place kept) (scope ∷ kept_scopes (keeping own place kept)) ++ (own.me ∷ []) → over.sizes ≡ map (size_of (keeping own place [])) over.vars
     → IsOver (view_at own place stage (slice_set kept k (Some t)) made value) over
 known_after own place stage kept made value k scope cells t over taken vars sizes =

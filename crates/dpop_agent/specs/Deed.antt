@@ -8,7 +8,7 @@ use Rattle.protocol_steps.specs.Dpop.{DpopView, size_of}
 use Rattle.protocol_steps.specs.DpopStep.{takes_util}
 
 -- the agent's view is that of a step, and the step's parcels come after those that were there before
-pub record Gives (s : Stepped DpopView) (view : DpopView) (before parcels : List (ℕ × Message)) : Type 0 where
+pub record GivesDpopStep (s : Stepped DpopView) (view : DpopView) (before parcels : List (ℕ × Message)) : Type 0 where
   pub viewed : view ≡ s.view
   pub sent : parcels ≡ before ++ s.sends
 
@@ -23,6 +23,6 @@ parcels_up None t = []
 parcels_up (Some parent) t = (parent, Util t.scope t.cells) ∷ []
 
 -- the child's table exactly if it is taken, with the sizes that the agent knows
-abbrev pub IsTaken : DpopView → ℕ → List ℕ → List ℕ → Option CostTable → Type 0
-IsTaken v k scope cells None = takes_util v k scope cells ≡ false
-IsTaken v k scope cells (Some t) = (takes_util v k scope cells ≡ true) × IsTableOfParts scope (map (size_of v) scope) cells t
+abbrev pub IsTableTaken : DpopView → ℕ → List ℕ → List ℕ → Option CostTable → Type 0
+IsTableTaken v k scope cells None = takes_util v k scope cells ≡ false
+IsTableTaken v k scope cells (Some t) = (takes_util v k scope cells ≡ true) × IsTableOfParts scope (map (size_of v) scope) cells t

@@ -22,8 +22,8 @@ MayKeep own place None = Unit {0}
 MayKeep own place (Some t) = IsChildTable own place t
 
 -- none of these lower variables is in the path
-abbrev pub AreApart : List ℕ → List ℕ → Type 0
-AreApart lower path = (u : ℕ) → has lower u ≡ true → has path u ≡ false
+abbrev pub AreOffPath : List ℕ → List ℕ → Type 0
+AreOffPath lower path = (u : ℕ) → has lower u ≡ true → has path u ≡ false
 
 -- whether a variable is a neighbour, in this scope or in the scope of a kept table
 abbrev pub is_near : Private → List (Option CostTable) → List ℕ → ℕ → Bool

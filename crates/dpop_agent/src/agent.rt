@@ -14,7 +14,7 @@ ghost use Rattle.protocol_steps.specs.DpopJoin.{decide, join};
 ghost use Rattle.protocol_steps.specs.DpopStep.{dpop_message, dpop_start, dpop_step, takes_values};
 ghost use Rattle.protocol_steps.specs.View.{DpopKind};
 ghost use Rattle.dpop_agent.specs.Stage.{working};
-ghost use Rattle.dpop_agent.specs.Deed.{Gives, IsRunning};
+ghost use Rattle.dpop_agent.specs.Deed.{GivesDpopStep, IsRunning};
 ghost use Rattle.dpop_agent.specs.Joint.{IsOver};
 
 use crate::best::best_of;
@@ -105,7 +105,7 @@ impl DpopAgent {
         requires range { IsContext values.now }
         ensures own { (self.new.own ≡ self.old.own) × (self.new.place ≡ self.old.place) }
         ensures gives { IfOk result (λ ps.
-            Gives (decide self.old values.now) self.new parcels.items ps.items) }
+            GivesDpopStep (decide self.old values.now) self.new parcels.items ps.items) }
     {
         let kept = self.kept.as_slice();
         let best = best_of(self.alloc, &self.own, &self.place, kept, values)?;
@@ -133,7 +133,7 @@ impl DpopAgent {
         ensures own { (self.new.own ≡ self.old.own) × (self.new.place ≡ self.old.place) }
         ensures running { IfOk result (λ _. IsRunning self.new) }
         ensures gives { IfOk result (λ ps.
-            Gives (join self.old) self.new parcels.items ps.items) }
+            GivesDpopStep (join self.old) self.new parcels.items ps.items) }
     {
         let kept = self.kept.as_slice();
         let Some(made) = util_of(self.alloc, &self.own, &self.place, kept, known)? else {
@@ -160,7 +160,7 @@ impl DpopAgent {
         ensures own { (self.new.own ≡ self.old.own) × (self.new.place ≡ self.old.place) }
         ensures running { IfOk result (λ _. IsRunning self.new) }
         ensures gives { IfOk result (λ ps.
-            Gives (dpop_message self.old from (Util scope.now cells.now)) self.new
+            GivesDpopStep (dpop_message self.old from (Util scope.now cells.now)) self.new
             parcels.items ps.items) }
     {
         let Some(child) = position_of(self.place.children.as_slice(), from) else {
@@ -216,7 +216,7 @@ impl DpopAgent {
         ensures own { (self.new.own ≡ self.old.own) × (self.new.place ≡ self.old.place) }
         ensures running { IfOk result (λ _. IsRunning self.new) }
         ensures gives { IfOk result (λ ps.
-            Gives (dpop_message self.old from (ValueAll values.now)) self.new
+            GivesDpopStep (dpop_message self.old from (ValueAll values.now)) self.new
             parcels.items ps.items) }
     {
         if !self.takes_values(from, values) {
@@ -231,7 +231,7 @@ impl DpopAgent {
         ensures own { (self.new.own ≡ self.old.own) × (self.new.place ≡ self.old.place) }
         ensures running { IfOk result (λ _. IsRunning self.new) }
         ensures gives { IfOk result (λ ps.
-            Gives (dpop_message self.old letter.now.0 letter.now.1) self.new
+            GivesDpopStep (dpop_message self.old letter.now.0 letter.now.1) self.new
             parcels.items ps.items) }
     {
         match &letter.message {
@@ -278,7 +278,7 @@ impl DpopAgent {
         requires { self.old.phase ≡ not_started }
         ensures own { (self.new.own ≡ self.old.own) × (self.new.place ≡ self.old.place) }
         ensures gives { IfOk result (λ ps.
-            Gives (dpop_start self.old) self.new parcels.items ps.items) }
+            GivesDpopStep (dpop_start self.old) self.new parcels.items ps.items) }
     {
         self.stage = Stage::Working;
         self.join(None, parcels)

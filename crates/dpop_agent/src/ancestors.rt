@@ -5,7 +5,7 @@ ghost use Rattle.std.specs.List.{filter, list_all, zip};
 ghost use Rattle.std.specs.Cmp.Lexicographic.{pointwise};
 ghost use Rattle.dcop_base.specs.Table.{has, has_repeat};
 ghost use Rattle.adopt_context.specs.Context.{value_in};
-ghost use Rattle.dpop_agent.specs.Keeping.{AreApart};
+ghost use Rattle.dpop_agent.specs.Keeping.{AreOffPath};
 
 use dcop_base::{VarId, stands_in};
 
@@ -46,7 +46,7 @@ pub(crate) fn stand_in_order(path: &[VarId], vars: &[VarId]) -> bool
 
 /// Whether a scope names only the agent and variables of its path.
 pub(crate) fn are_above(scope: &[VarId], me: VarId, path: &[VarId], lower: &[VarId]) -> bool
-    requires { AreApart lower.now path.now }
+    requires { AreOffPath lower.now path.now }
     ensures { result ≡ list_all (λ u. u == me || has path.now u) scope.now }
 {
     scope.iter().all(|var| is_above(*var, me, path, lower))
@@ -55,7 +55,7 @@ pub(crate) fn are_above(scope: &[VarId], me: VarId, path: &[VarId], lower: &[Var
 /// Whether the variable is the agent's or one of its path. A neighbour that is not in the path is
 /// one of the lower variables. It is searched for there first if they are fewer.
 fn is_above(var: VarId, me: VarId, path: &[VarId], lower: &[VarId]) -> bool
-    requires { AreApart lower.now path.now }
+    requires { AreOffPath lower.now path.now }
     ensures { result ≡ (var == me || has path.now var) }
 {
     if var == me {

@@ -6,7 +6,7 @@ ghost use Rattle.dcop_base.specs.Limits.{amount_limit};
 ghost use Rattle.dcop_base.specs.Table.{has};
 ghost use Rattle.protocol_steps.specs.Values.{valued};
 ghost use Rattle.protocol_steps.specs.Dpop.{best_value, there};
-ghost use Rattle.dpop_agent.specs.Keeping.{AreApart, keeping};
+ghost use Rattle.dpop_agent.specs.Keeping.{AreOffPath, keeping};
 ghost use Rattle.dpop_agent.specs.Row.{AreBelowSizes, HasCells, HasRisen};
 ghost use Rattle.dpop_agent.specs.Sound.{IsKeeper};
 
@@ -85,7 +85,7 @@ fn add_own(
     lower: &[VarId],
     values: &AgentContext,
 )
-    requires apart { AreApart lower.now path.now }
+    requires apart { AreOffPath lower.now path.now }
     requires some { 1 ≤ length costs.old }
     requires small { All (λ c. c ≤ amount_limit) costs.old }
     requires cells { All (λ t. list_all (λ u. u == me || has path.now u) t.scope ≡ true

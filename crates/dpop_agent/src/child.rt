@@ -14,7 +14,7 @@ ghost use Rattle.protocol_steps.specs.Ranges.{AreVariables, AreCells};
 ghost use Rattle.protocol_steps.specs.DpopStep.{is_below_size, is_open, takes_util};
 ghost use Rattle.dpop_agent.specs.Keeping.{keeping};
 ghost use Rattle.dpop_agent.specs.Sound.{IsKeeper};
-ghost use Rattle.dpop_agent.specs.Deed.{IsTaken, parcels_up};
+ghost use Rattle.dpop_agent.specs.Deed.{IsTableTaken, parcels_up};
 
 use crate::ancestors::{size_from_the_end, stand_in_order};
 use crate::separator::sizes_of;
@@ -173,7 +173,7 @@ pub(crate) fn table_of(
     requires range { AreCells cells.now }
     requires over { product over.now ≡ joined_cells_with (keeping own.now place.now kept.now)
         (scope.now ∷ kept_scopes (keeping own.now place.now kept.now)) }
-    ensures { IfOk result (IsTaken (keeping own.now place.now kept.now) child scope.now cells.now) }
+    ensures { IfOk result (IsTableTaken (keeping own.now place.now kept.now) child scope.now cells.now) }
 {
     let sizes = sizes_of(alloc, own, place, scope)?;
     if !takes(

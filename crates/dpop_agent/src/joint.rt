@@ -5,7 +5,7 @@ ghost use Rattle.std.specs.List.{All, list_all, filter, flat_map};
 ghost use Rattle.dcop_base.specs.Table.{has, has_repeat};
 ghost use Rattle.protocol_steps.specs.Dpop.{there};
 ghost use Rattle.util_join.specs.Join.{LiesIn};
-ghost use Rattle.dpop_agent.specs.Keeping.{AreApart, keeping};
+ghost use Rattle.dpop_agent.specs.Keeping.{AreOffPath, keeping};
 ghost use Rattle.dpop_agent.specs.Joint.{HasGained, IsOver, IsZeroOver, IsZeroWhereNarrow, IsJointWhereMay};
 ghost use Rattle.dpop_agent.specs.Sound.{IsKeeper};
 
@@ -25,7 +25,7 @@ pub(crate) fn add_own(
     path: &[VarId],
     lower: &[VarId],
 )
-    requires apart { AreApart lower.now path.now }
+    requires apart { AreOffPath lower.now path.now }
     requires lie { All (λ t. list_all (λ u. u == me || has path.now u) t.scope ≡ true
         → LiesIn joined.old.scope joined.old.sizes t) tables.now }
     ensures { HasGained (filter (λ t. list_all (λ u. u == me || has path.now u) t.scope) tables.now)

@@ -22,7 +22,7 @@ use Rattle.dpop_agent.proofs.RemakeLaws.{sent_keeper}
 use Rattle.dpop_agent.proofs.CellLaws.{joint_names, joint_sizes, joint_size, picked_best}
 use Rattle.edit_session.specs.Held.{agent_with, AreAllHeld}
 use Rattle.edit_session.specs.MadeLaws.{AreChildrenHeld, ChildrenMayBeJoined, PicksReadSeparators}
-use Rattle.edit_session.specs.Loops.{IsGround}
+use Rattle.edit_session.specs.Loops.{IsEditGround}
 use Rattle.edit_session.proofs.LoopLaws.{children_all, values_within}
 
 -- what is picked: what the search for it asks, and that it is the best value
@@ -48,7 +48,7 @@ none_kept p paths kept i all lt at =
     some_none : (m : Made) → Some m ≡ None → ⊥
     some_none m e = cc
 
-pub is_pick : (p : Dcop) (tree : RootedTree) (kept : List (Option Made)) (i : ℕ) (t : CostTable) (values others : List ℕ) → IsProblem p → IsGround p tree kept → ChildrenMayBeJoined → PicksReadSeparators
+pub is_pick : (p : Dcop) (tree : RootedTree) (kept : List (Option Made)) (i : ℕ) (t : CostTable) (values others : List ℕ) → IsProblem p → IsEditGround p tree kept → ChildrenMayBeJoined → PicksReadSeparators
     → AreAllHeld p tree.paths kept → i < length p.sizes → IsAssignment p values → IsJoint (agent_with p tree.paths kept i) t → others ≡ map (λ (v : ℕ). get_or values v 0) (separator_at tree i) → IsPick p tree.paths kept i t values others
 is_pick p tree kept i t values others problem ground may reads all lt assignment joint is =
     let paths : List (List ℕ) = tree.paths in

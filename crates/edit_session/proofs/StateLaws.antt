@@ -20,7 +20,7 @@ use Rattle.edit_session.specs.Held.{AreHeldFrom, AreAllHeld}
 use Rattle.edit_session.specs.Edits.{table_at, with_cells, is_on_way, EditsLeaveOthers}
 use Rattle.edit_session.specs.State.{is_touched, touched_by, edited_file}
 use Rattle.edit_session.specs.Session.{IsSession, turned_for, turned_cells}
-use Rattle.edit_session.specs.Loops.{IsGround, HasReplaced, StayHeld}
+use Rattle.edit_session.specs.Loops.{IsEditGround, HasReplaced, StayHeld}
 use Rattle.edit_session.proofs.CellLaws.{cells_by, solved_edit, solved_scope, solved_inside, solved_whole, turned_for_edit}
 
 -- marks that say of each agent whether it is touched
@@ -132,9 +132,9 @@ session_kept file turned top tree touched touched' kept kept' is marks long held
 
 -- the agents of a session stand on a narrow and linked pseudotree
 pub ground_of : (file : TextFile) (turned : Option Dcop) (top : ℕ) (tree : RootedTree) (touched : List Bool) (kept : List (Option Made)) → IsSession file turned top tree touched kept
-    → IsLinked (problem_solved file) (dfs (problem_solved file)) → length (problem_solved file).sizes ≡ length file.problem.sizes → (q : Dcop) → q ≡ problem_solved file → IsGround q tree kept
+    → IsLinked (problem_solved file) (dfs (problem_solved file)) → length (problem_solved file).sizes ≡ length file.problem.sizes → (q : Dcop) → q ≡ problem_solved file → IsEditGround q tree kept
 ground_of file turned top tree touched kept is linked sizes q same =
-    subst (λ (r : Dcop). IsGround r tree kept) (sym same) (record {
+    subst (λ (r : Dcop). IsEditGround r tree kept) (sym same) (record {
       tree_is = is.tree_is;
       linked = subst (IsLinked (problem_solved file)) (sym is.paths) linked;
       narrow = subst (IsNarrow (problem_solved file)) (sym is.paths) is.narrow;

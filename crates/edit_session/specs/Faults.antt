@@ -52,9 +52,9 @@ abbrev pub fill_fault : Dcop → ℕ → List ℕ → Option SetFault
 fill_fault p k cells = or_else (cells_fault p.tables k cells) (sum_fault p k cells)
 
 -- a refusal has this fault; if memory runs out, nothing is promised
-abbrev pub IsFaultOf : Option SetFault → SetFault → Type 0
-IsFaultOf fault NoMemory = Unit {0}
-IsFaultOf fault e = fault ≡ Some e
+abbrev pub IsEditFaultOf : Option SetFault → SetFault → Type 0
+IsEditFaultOf fault NoMemory = Unit {0}
+IsEditFaultOf fault e = fault ≡ Some e
 
 -- these cells may replace those of table k: the table exists, it has as many cells, and no cost is
 -- too large

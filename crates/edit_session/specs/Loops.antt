@@ -15,7 +15,7 @@ use Rattle.edit_session.specs.State.{is_touched, touched_by, edited_file}
 use Rattle.edit_session.specs.Session.{turned_cells}
 
 -- a narrow and linked pseudotree of a problem, with an entry of kept tables for each agent
-pub record IsGround (p : Dcop) (tree : RootedTree) (kept : List (Option Made)) : Type 0 where
+pub record IsEditGround (p : Dcop) (tree : RootedTree) (kept : List (Option Made)) : Type 0 where
   pub tree_is : IsPseudotreeOf p tree
   pub linked : IsLinked p tree.paths
   pub narrow : IsNarrow p tree.paths

@@ -5,7 +5,7 @@ ghost use Rattle.dcop_base.specs.Problem.{IsAssignment, cost};
 ghost use Rattle.pseudotree.specs.DepthFirst.{dfs};
 ghost use Rattle.edit_session.specs.Held.{AreAllHeld};
 ghost use Rattle.minimised_problem.specs.Goal.{problem_solved};
-ghost use Rattle.edit_session.specs.Loops.{IsGround, StayHeld, AreOthersHeld};
+ghost use Rattle.edit_session.specs.Loops.{IsEditGround, StayHeld, AreOthersHeld};
 ghost use Rattle.edit_session.specs.State.{IsAnswerNow, touched_cells};
 
 use crate::mark::{count_of, unmark};
@@ -32,7 +32,7 @@ pub(crate) fn answer_with<L: Ledger>(
 ) -> Result<Edited, NoMemory>
     requires solved { problem.now ≡ problem_solved file.now }
     requires paths { tree.now.paths ≡ dfs problem.now }
-    requires ground { IsGround problem.now tree.now kept.old.items }
+    requires ground { IsEditGround problem.now tree.now kept.old.items }
     requires marked { length touched.old.items ≡ length problem.now.sizes }
     requires others { AreOthersHeld problem.now tree.now.paths touched.old.items kept.old.items }
     ensures answer { IfOk result

@@ -9,7 +9,7 @@ ghost use Rattle.dcop_base.specs.Faults.{greatest_sum};
 ghost use Rattle.dcop_base.specs.Whole.{IsProblem};
 ghost use Rattle.dcop_optimum.specs.Goal.{top_of};
 ghost use Rattle.edit_session.specs.Edits.{no_table, recelled, with_cells};
-ghost use Rattle.edit_session.specs.Faults.{IsFaultOf, IsReplacement, cell_fault, cells_fault, cells_set, cells_in};
+ghost use Rattle.edit_session.specs.Faults.{IsEditFaultOf, IsReplacement, cell_fault, cells_fault, cells_set, cells_in};
 ghost use Rattle.edit_session.specs.State.{edited_file};
 ghost use Rattle.edit_session.specs.Session.{turned_cells};
 
@@ -51,7 +51,7 @@ pub(crate) fn set_cells(
     ensures told { MatchResult result
         (λ cells. (cell_fault file.now.problem.tables table cell cost ≡ None)
         × (cells.items ≡ cells_set file.now.problem.tables table cell cost))
-        (IsFaultOf (cell_fault file.now.problem.tables table cell cost)) }
+        (IsEditFaultOf (cell_fault file.now.problem.tables table cell cost)) }
     ensures fits { IfOk result
         (λ cells. IsReplacement file.now.problem.tables table cells.items) }
 {
@@ -72,7 +72,7 @@ pub(crate) fn fill_cells(
     ensures told { MatchResult result
         (λ copy. (cells_fault file.now.problem.tables table cells.now ≡ None)
         × (copy.items ≡ cells.now))
-        (IsFaultOf (cells_fault file.now.problem.tables table cells.now)) }
+        (IsEditFaultOf (cells_fault file.now.problem.tables table cells.now)) }
     ensures fits { IfOk result
         (λ copy. IsReplacement file.now.problem.tables table copy.items) }
 {
@@ -92,7 +92,7 @@ fn cells_set(
     ensures { MatchResult result
         (λ cells. (cell_fault tables.now table cell cost ≡ None)
         × (cells.items ≡ cells_set tables.now table cell cost))
-        (IsFaultOf (cell_fault tables.now table cell cost)) }
+        (IsEditFaultOf (cell_fault tables.now table cell cost)) }
 {
     let Some(old) = cells_at(tables, table) else {
         return Err(SetFault::NoTable);
@@ -117,7 +117,7 @@ fn cells_for(
 ) -> Result<Vec<u64>, SetFault>
     ensures { MatchResult result
         (λ copy. (cells_fault tables.now table cells.now ≡ None) × (copy.items ≡ cells.now))
-        (IsFaultOf (cells_fault tables.now table cells.now)) }
+        (IsEditFaultOf (cells_fault tables.now table cells.now)) }
 {
     let Some(old) = cells_at(tables, table) else {
         return Err(SetFault::NoTable);

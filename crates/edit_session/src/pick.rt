@@ -6,7 +6,7 @@ ghost use Rattle.pseudotree.specs.Pseudotree.{separator_of};
 ghost use Rattle.protocol_steps.specs.Dpop.{best_value};
 ghost use Rattle.dcop_optimum.specs.TreeOptimum.{IsFirstOptimumOf};
 ghost use Rattle.edit_session.specs.Held.{agent_with, AreAllHeld};
-ghost use Rattle.edit_session.specs.Loops.{IsGround};
+ghost use Rattle.edit_session.specs.Loops.{IsEditGround};
 
 use crate::law::{children_may_be_joined, lowest_picks_are_first, picks_read_separators};
 use dcop_base::{NoMemory, Problem, Val, VarId, problem_is_whole};
@@ -37,7 +37,7 @@ fn picked(
     var: VarId,
     values: &[Val],
 ) -> Result<Val, NoMemory>
-    requires ground { IsGround problem.now tree.now kept.now }
+    requires ground { IsEditGround problem.now tree.now kept.now }
     requires held { AreAllHeld problem.now tree.now.paths kept.now }
     requires known { var < length problem.now.sizes }
     requires assignment { IsAssignment problem.now values.now }
@@ -63,7 +63,7 @@ pub(crate) fn pick_all(
     tree: &Tree,
     kept: &[Option<Made>],
 ) -> Result<Vec<Val>, NoMemory>
-    requires ground { IsGround problem.now tree.now kept.now }
+    requires ground { IsEditGround problem.now tree.now kept.now }
     requires held { AreAllHeld problem.now tree.now.paths kept.now }
     ensures { IfOk result (λ values. IsFirstOptimumOf problem.now tree.now.paths values.items) }
 {

@@ -8,7 +8,7 @@ ghost use Rattle.pseudotree.specs.Width.{joined_cells};
 ghost use Rattle.dpop_agent.specs.Remade.{IsRemade};
 ghost use Rattle.edit_session.specs.Held.{agent_with, AreHeldFrom, AreAllHeld};
 ghost use Rattle.edit_session.specs.MadeLaws.{AreChildrenHeld};
-ghost use Rattle.edit_session.specs.Loops.{IsGround, StayHeld, AreOthersHeld, cells_among};
+ghost use Rattle.edit_session.specs.Loops.{IsEditGround, StayHeld, AreOthersHeld, cells_among};
 
 use crate::law::{children_may_be_joined, one_more_is_held};
 use crate::mark::count_of;
@@ -50,7 +50,7 @@ fn made_at<L: Ledger>(
     kept: &KeptList,
     steps: &mut Steps<L>,
 ) -> Result<Made, NoMemory>
-    requires ground { IsGround problem.now tree.now kept.now.items }
+    requires ground { IsEditGround problem.now tree.now kept.now.items }
     requires inside { var < length problem.now.sizes }
     requires known { own.now ≡ private_of problem.now var }
     requires children { AreChildrenHeld problem.now tree.now.paths kept.now.items var }
@@ -78,7 +78,7 @@ fn made_from<L: Ledger>(
     kept: &KeptList,
     steps: &mut Steps<L>,
 ) -> Result<Made, NoMemory>
-    requires ground { IsGround problem.now tree.now kept.now.items }
+    requires ground { IsEditGround problem.now tree.now kept.now.items }
     requires inside { var < length problem.now.sizes }
     requires known { known.now ≡ map (private_of problem.now) (range_with_len 0 (length known.now)) }
     requires children { AreChildrenHeld problem.now tree.now.paths kept.now.items var }
@@ -106,7 +106,7 @@ fn renew<L: Ledger>(
     kept: &mut KeptList,
     steps: &mut Steps<L>,
 ) -> Result<(), NoMemory>
-    requires ground { IsGround problem.now tree.now kept.old.items }
+    requires ground { IsEditGround problem.now tree.now kept.old.items }
     requires marked { length touched.now ≡ length problem.now.sizes }
     requires inside { var < length problem.now.sizes }
     requires known { known.now ≡ map (private_of problem.now) (range_with_len 0 (length known.now)) }
@@ -138,7 +138,7 @@ pub(crate) fn remake_touched<L: Ledger>(
     kept: &mut KeptList,
     steps: &mut Steps<L>,
 ) -> Result<(), NoMemory>
-    requires ground { IsGround problem.now tree.now kept.old.items }
+    requires ground { IsEditGround problem.now tree.now kept.old.items }
     requires marked { length touched.now ≡ length problem.now.sizes }
     requires others { AreOthersHeld problem.now tree.now.paths touched.now kept.old.items }
     ensures held { OnOk result (AreAllHeld problem.now tree.now.paths kept.new.items) }

@@ -3,7 +3,7 @@
 ghost use Rattle.std.specs.Prelude.{◌≡◌, None, IfOk, IfErr, OnOk, OnErr, length};
 ghost use Rattle.pseudotree.specs.Tree.{IsTree};
 ghost use Rattle.dcop_optimum.specs.Goal.{top_of};
-ghost use Rattle.edit_session.specs.Faults.{IsFaultOf, IsReplacement, sum_fault};
+ghost use Rattle.edit_session.specs.Faults.{IsEditFaultOf, IsReplacement, sum_fault};
 ghost use Rattle.edit_session.specs.Loops.{HasReplaced};
 ghost use Rattle.edit_session.specs.Session.{turned_for};
 
@@ -37,7 +37,7 @@ pub(crate) fn replace_cells(
     ensures fits { OnOk result (sum_fault file.old.problem table cells.items ≡ None) }
     ensures done { IfOk result (HasReplaced tree.now.paths table cells.items file.old file.new
         turned.old turned.new touched.old.items touched.new.items) }
-    ensures refused { IfErr result (IsFaultOf (sum_fault file.old.problem table cells.items)) }
+    ensures refused { IfErr result (IsEditFaultOf (sum_fault file.old.problem table cells.items)) }
     ensures file { OnErr result (file.new ≡ file.old) }
     ensures problem { OnErr result (turned.new ≡ turned.old) }
     ensures marks { OnErr result (touched.new.items ≡ touched.old.items) }

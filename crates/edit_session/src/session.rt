@@ -7,7 +7,7 @@ ghost use Rattle.pseudotree.specs.DepthFirst.{dfs};
 ghost use Rattle.pseudotree.specs.Pseudotree.{IsPseudotreeOf};
 ghost use Rattle.pseudotree.specs.Width.{wide_of};
 ghost use Rattle.minimised_problem.specs.Goal.{problem_solved};
-ghost use Rattle.edit_session.specs.Faults.{IsFaultOf, IsReplacement, set_fault, fill_fault, sum_fault, cells_set};
+ghost use Rattle.edit_session.specs.Faults.{IsEditFaultOf, IsReplacement, set_fault, fill_fault, sum_fault, cells_set};
 ghost use Rattle.edit_session.specs.Session.{HoldsOthers, IsOpenFault, opened_session, or_own, turned_for};
 ghost use Rattle.edit_session.specs.State.{IsAnswerNow, answered, edited, opened, touched_cells};
 
@@ -106,7 +106,7 @@ impl Session {
             MatchResult result
             (λ _. (fault ≡ None) × (self.new
             ≡ record { state = edited self.old.state table cells; kept = self.old.kept }))
-            (λ e. IsFaultOf fault e × (self.new ≡ self.old)) }
+            (λ e. IsEditFaultOf fault e × (self.new ≡ self.old)) }
     {
         let cells = set_cells(self.alloc, &self.file, table, cell, cost)?;
         self.replace(table as usize, cells)
@@ -123,7 +123,7 @@ impl Session {
             MatchResult result
             (λ _. (fault ≡ None) × (self.new
             ≡ record { state = edited self.old.state table cells.now; kept = self.old.kept }))
-            (λ e. IsFaultOf fault e × (self.new ≡ self.old)) }
+            (λ e. IsEditFaultOf fault e × (self.new ≡ self.old)) }
     {
         let cells = fill_cells(self.alloc, &self.file, table, cells)?;
         self.replace(table as usize, cells)
@@ -183,7 +183,7 @@ impl Session {
             MatchResult result
             (λ _. (fault ≡ None) × (self.new
             ≡ record { state = edited self.old.state table cells.items; kept = self.old.kept }))
-            (λ e. IsFaultOf fault e × (self.new ≡ self.old)) }
+            (λ e. IsEditFaultOf fault e × (self.new ≡ self.old)) }
     {
         edits_leave_others();
         file_is_whole(&self.file);

@@ -11,7 +11,7 @@ use Rattle.dcop_base.specs.Limits.{count_limit}
 use Rattle.protocol_steps.specs.declared.message.Message.{Message}
 use Rattle.worker_laws.specs.Wires.{Passage, Wire, IsSame, HasHeld, HaveHeld, HasPassed}
 use Rattle.worker_laws.proofs.WireLaws.{all_right}
-use Rattle.link_records.specs.Differences.{drained_by, ComesBefore, Differs}
+use Rattle.link_records.specs.Differences.{drained_by, IsLowerLink, Differs}
 use Rattle.link_records.specs.declared.first.FirstDifference.{FirstDifference}
 use Rattle.link_records.specs.declared.kept.LinkDifference.{LinkDifference}
 use Rattle.link_records.specs.Firsts.{DiffersFirst}
@@ -108,7 +108,7 @@ lowest_differs ws link w from to at sent taken l same sender receiver d = record
   first = record {
     wire = w;
     is = subst (λ (v : Wire). slice_get ws link ≡ Some v) same l.is;
-    lowest = λ k v found before. l.lowest k v (slice_get_within ws k v found) found (subst (λ (u : Wire). ComesBefore v u) (sym same) before);
+    lowest = λ k v found before. l.lowest k v (slice_get_within ws k v found) found (subst (λ (u : Wire). IsLowerLink v u) (sym same) before);
     first = d.first;
   };
   from_is = sender;

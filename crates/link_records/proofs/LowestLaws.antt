@@ -4,14 +4,14 @@ use Rattle.std.specs.List.{slice_get}
 use Rattle.std.proofs.lemmas.Bool.{cases_Bool, eqb-true, eq-eqb, true≢false}
 use Rattle.std.proofs.lemmas.Option.{get_or_from_slice_get, slice_get_read}
 use Rattle.worker_laws.specs.Wires.{Wire, HasHeld}
-use Rattle.link_records.specs.Differences.{ComesBefore}
+use Rattle.link_records.specs.Differences.{IsLowerLink}
 use Rattle.link_records.specs.Found.{IsLowest, IsLowestOf}
 
-before_itself : (w : Wire) → ComesBefore w w → ⊥
+before_itself : (w : Wire) → IsLowerLink w w → ⊥
 before_itself w (inl lower) = omega (arith, lower)
 before_itself w (inr same) = let lower = same.1 in omega (arith, lower)
 
-before_then : (u v w : Wire) → ComesBefore u v → ComesBefore v w → ComesBefore u w
+before_then : (u v w : Wire) → IsLowerLink u v → IsLowerLink v w → IsLowerLink u w
 before_then u v w (inl a) (inl b) = inl (omega (arith, a, b))
 before_then u v w (inl a) (inr b) = inl (subst (λ (k : ℕ). u.sender < k) b.0 a)
 before_then u v w (inr a) (inl b) = inl (subst (λ (k : ℕ). k < w.sender) (sym a.0) b)
@@ -38,11 +38,11 @@ module _ (ws : List Wire) (count : ℕ) (w : Wire) (is : w ≡ get_or ws count w
         within = omega (arith, within);
         is = l.is;
         differs = l.differs;
-        lowest = one_more (λ (v : Wire). ComesBefore v l.wire → HasHeld v) ws count w is l.lowest (λ before. held);
+        lowest = one_more (λ (v : Wire). IsLowerLink v l.wire → HasHeld v) ws count w is l.lowest (λ before. held);
       }
 
   -- it does not come before
-  pub lowest_yet : (link : ℕ) (u : Wire) → u ≡ get_or ws link u → (ComesBefore w u → ⊥) → IsLowest ws count link → IsLowest ws (count + 1) link
+  pub lowest_yet : (link : ℕ) (u : Wire) → u ≡ get_or ws link u → (IsLowerLink w u → ⊥) → IsLowest ws count link → IsLowest ws (count + 1) link
   lowest_yet link u at behind l =
       let within = l.within in
       let same : u ≡ l.wire = at ∙ get_or_from_slice_get ws link l.wire u l.is in
@@ -51,22 +51,22 @@ module _ (ws : List Wire) (count : ℕ) (w : Wire) (is : w ≡ get_or ws count w
         within = omega (arith, within);
         is = l.is;
         differs = l.differs;
-        lowest = one_more (λ (v : Wire). ComesBefore v l.wire → HasHeld v) ws count w is l.lowest (λ before. absurd (behind (subst (λ (v : Wire). ComesBefore w v) (sym same) before)));
+        lowest = one_more (λ (v : Wire). IsLowerLink v l.wire → HasHeld v) ws count w is l.lowest (λ before. absurd (behind (subst (λ (v : Wire). IsLowerLink w v) (sym same) before)));
       }
 
   -- it has not held, and comes before
-  pub lower : (link : ℕ) (u v : Wire) → count < length ws → (HasHeld w → ⊥) → u ≡ get_or ws link u → v ≡ get_or ws count v → ComesBefore v u → IsLowest ws count link → IsLowest ws (count + 1) count
+  pub lower : (link : ℕ) (u v : Wire) → count < length ws → (HasHeld w → ⊥) → u ≡ get_or ws link u → v ≡ get_or ws count v → IsLowerLink v u → IsLowest ws count link → IsLowest ws (count + 1) count
   lower link u v inside differs at again before l =
       let here : slice_get ws count ≡ Some w = slice_get_read ws (length ws) count w refl inside is in
       let same : u ≡ l.wire = at ∙ get_or_from_slice_get ws link l.wire u l.is in
       let one : v ≡ w = again ∙ get_or_from_slice_get ws count w v here in
-      let first : ComesBefore w l.wire = subst (λ (x : Wire). ComesBefore x l.wire) one (subst (λ (x : Wire). ComesBefore v x) same before) in
+      let first : IsLowerLink w l.wire = subst (λ (x : Wire). IsLowerLink x l.wire) one (subst (λ (x : Wire). IsLowerLink v x) same before) in
       record {
         wire = w;
         within = omega arith;
         is = here;
         differs = differs;
-        lowest = one_more (λ (x : Wire). ComesBefore x w → HasHeld x) ws count w is (λ k x low found b. l.lowest k x low found (before_then x w l.wire b first)) (λ b. absurd (before_itself w b));
+        lowest = one_more (λ (x : Wire). IsLowerLink x w → HasHeld x) ws count w is (λ k x low found b. l.lowest k x low found (before_then x w l.wire b first)) (λ b. absurd (before_itself w b));
       }
 
   -- it is the first that has not held
@@ -76,5 +76,5 @@ module _ (ws : List Wire) (count : ℕ) (w : Wire) (is : w ≡ get_or ws count w
     within = omega arith;
     is = slice_get_read ws (length ws) count w refl inside is;
     differs = differs;
-    lowest = one_more (λ (v : Wire). ComesBefore v w → HasHeld v) ws count w is (λ k v low at b. all k v low at) (λ b. absurd (before_itself w b));
+    lowest = one_more (λ (v : Wire). IsLowerLink v w → HasHeld v) ws count w is (λ k v low at b. all k v low at) (λ b. absurd (before_itself w b));
   }

@@ -25,12 +25,12 @@ pub record FirstDiffer (passages : List Passage) (number place at : ℕ) : Type 
 
 -- a link comes before another if its sender is lower, or if the senders are the same and its
 -- receiver is lower
-abbrev pub ComesBefore : Wire → Wire → Type 0
-ComesBefore v w = (v.sender < w.sender) ⊎ ((v.sender ≡ w.sender) × (v.receiver < w.receiver))
+abbrev pub IsLowerLink : Wire → Wire → Type 0
+IsLowerLink v w = (v.sender < w.sender) ⊎ ((v.sender ≡ w.sender) × (v.receiver < w.receiver))
 
 -- each exchange took what it drained on all links of the list that come before this one
 abbrev pub HoldBefore : List Wire → Wire → Type 0
-HoldBefore ws w = (k : ℕ) (v : Wire) → slice_get ws k ≡ Some v → ComesBefore v w → HasHeld v
+HoldBefore ws w = (k : ℕ) (v : Wire) → slice_get ws k ≡ Some v → IsLowerLink v w → HasHeld v
 
 -- the lowest link that differs is at this position of the list, and this is its first difference
 pub record IsFirstDifference (ws : List Wire) (link number place at : ℕ) : Type 0 where

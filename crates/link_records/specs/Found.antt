@@ -2,7 +2,7 @@
 use Rattle.std.specs.Prelude.{◌≡◌, ℕ, ◌<◌, Option, Some, None, slice_get, List}
 use Rattle.protocol_steps.specs.declared.message.Message.{Message}
 use Rattle.worker_laws.specs.Wires.{Wire, HasHeld}
-use Rattle.link_records.specs.Differences.{FirstDiffer, ComesBefore}
+use Rattle.link_records.specs.Differences.{FirstDiffer, IsLowerLink}
 
 -- the link at this position differs, and none of the first `count` links that come before it does
 pub record IsLowest (ws : List Wire) (count link : ℕ) : Type 0 where
@@ -10,7 +10,7 @@ pub record IsLowest (ws : List Wire) (count link : ℕ) : Type 0 where
   pub within : link < count
   pub is : slice_get ws link ≡ Some wire
   pub differs : ¬ HasHeld wire
-  pub lowest : (k : ℕ) (v : Wire) → k < count → slice_get ws k ≡ Some v → ComesBefore v wire → HasHeld v
+  pub lowest : (k : ℕ) (v : Wire) → k < count → slice_get ws k ≡ Some v → IsLowerLink v wire → HasHeld v
 
 -- it is this one, or none of the first `count` links differs
 abbrev pub IsLowestOf : List Wire → ℕ → Option ℕ → Type 0

@@ -2,7 +2,7 @@
 
 ghost use Rattle.std.specs.Prelude.{◌≡◌, ◌↔◌, ◌+◌, ◌<◌, true, length, MatchOption};
 ghost use Rattle.worker_laws.specs.Wires.{HaveHeld};
-ghost use Rattle.link_records.specs.Differences.{ComesBefore, Differs};
+ghost use Rattle.link_records.specs.Differences.{IsLowerLink, Differs};
 ghost use Rattle.link_records.specs.Found.{IsLowest, IsLowestOf};
 
 use crate::kept::{KeptLink, LinkDifference};
@@ -51,7 +51,7 @@ fn lower_of(kept: &[KeptLink], lowest: Option<usize>, link: usize) -> Option<usi
 
 /// Whether a link comes before another.
 fn comes_before(one: &KeptLink, other: &KeptLink) -> bool
-    ensures { (result ≡ true) ↔ ComesBefore one.now other.now }
+    ensures { (result ≡ true) ↔ IsLowerLink one.now other.now }
 {
     let (sender, receiver) = (one.from(), one.to());
     if sender != other.from() {

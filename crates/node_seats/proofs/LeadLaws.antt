@@ -11,14 +11,14 @@ use Rattle.fifo_links.specs.declared.ends.LinkHead.{LinkHead}
 use Rattle.fifo_links.specs.Link.{AreEnds, sent_on, taken_from}
 use Rattle.worker_laws.proofs.EachLaws.{there}
 use Rattle.worker_laws.specs.Wires.{Wire}
-use Rattle.link_records.specs.Differences.{ComesBefore}
+use Rattle.link_records.specs.Differences.{IsLowerLink}
 use Rattle.agent_cells.specs.Links.{Tail, Head}
 use Rattle.agent_cells.specs.Settled.{StandsAt}
 use Rattle.agent_links.specs.Links.{pushed}
 use Rattle.tcp_links.specs.declared.plan.InnerEnds.{InnerEnds}
 use Rattle.tcp_links.specs.declared.plan.NodePlan.{NodePlan}
 use Rattle.tcp_links.specs.Plans.{fresh_link, BelongsAt, IsNewLink}
-use Rattle.node_seats.specs.Links.{LeadsBetween, AllLead, ComeBefore}
+use Rattle.node_seats.specs.Links.{LeadsBetween, AllLead, AreLinksBefore}
 
 -- what stands in a list with one element more at its end
 pub stands_more : {A : Type 0} (xs : List A) (y x : A) (k : ℕ) → StandsAt (xs ++ y ∷ []) k x → StandsAt xs k x ⊎ (x ≡ y)
@@ -45,28 +45,28 @@ stands_pushed {A} rows at y i k x lt s = elim (cases_eq i at) [
   | inr ne ↦ inl (subst (λ (xs : List A). StandsAt xs k x) (get_or-set_other rows at i (slice_index_or rows at [] ++ y ∷ []) [] ne) s)
 ]
 
-pub not_before : (v w : Wire) → ComesBefore v w → v.sender ≡ w.sender → v.receiver ≡ w.receiver → ⊥
+pub not_before : (v w : Wire) → IsLowerLink v w → v.sender ≡ w.sender → v.receiver ≡ w.receiver → ⊥
 not_before v w b s r = elim b [
   | inl low ↦ omega (arith, low, s)
   | inr same ↦ let low = same.1 in omega (arith, low, r)
 ]
 
-both_before : (v w : Wire) → ComesBefore v w → ComesBefore w v → ⊥
+both_before : (v w : Wire) → IsLowerLink v w → IsLowerLink w v → ⊥
 both_before v w a b = elim a [
   | inl low ↦ elim b [ inl high ↦ omega (arith, low, high) | inr same ↦ let e = same.0 in omega (arith, low, e) ]
   | inr same ↦ let e = same.0 in let low = same.1 in elim b [ inl high ↦ omega (arith, e, high) | inr other ↦ let high = other.1 in omega (arith, low, high) ]
 ]
 
-pub then_before : (u v w : Wire) → ComesBefore u v → ComesBefore v w → ComesBefore u w
+pub then_before : (u v w : Wire) → IsLowerLink u v → IsLowerLink v w → IsLowerLink u w
 then_before u v w a b = elim a [
   | inl low ↦ elim b [ inl high ↦ inl (omega (arith, low, high)) | inr same ↦ let e = same.0 in inl (omega (arith, low, e)) ]
   | inr same ↦ let e = same.0 in let low = same.1 in elim b [ inl high ↦ inl (omega (arith, e, high)) | inr other ↦ let f = other.0 in let high = other.1 in inr (e ∙ f, omega (arith, low, high)) ]
 ]
 
-pub all_then : (ws : List Wire) (v w : Wire) → ComesBefore v w → All (λ (u : Wire). ComesBefore u v) ws → All (λ (u : Wire). ComesBefore u w) ws
-all_then [] v w later all = All-nil (λ (u : Wire). ComesBefore u w)
+pub all_then : (ws : List Wire) (v w : Wire) → IsLowerLink v w → All (λ (u : Wire). IsLowerLink u v) ws → All (λ (u : Wire). IsLowerLink u w) ws
+all_then [] v w later all = All-nil (λ (u : Wire). IsLowerLink u w)
 all_then (x ∷ xs) v w later all =
-    All-cons (λ (u : Wire). ComesBefore u w) x xs (then_before x v w (All-head (λ (u : Wire). ComesBefore u v) x xs all) later) (all_then xs v w later (All-tail (λ (u : Wire). ComesBefore u v) x xs all))
+    All-cons (λ (u : Wire). IsLowerLink u w) x xs (then_before x v w (All-head (λ (u : Wire). IsLowerLink u v) x xs all) later) (all_then xs v w later (All-tail (λ (u : Wire). IsLowerLink u v) x xs all))
 
 -- what stands at a place of a list that is so throughout
 pub all_at : {A : Type 0} (P : A → Type 0) (xs : List A) (i : ℕ) (x : A) → All P xs → slice_get xs i ≡ Some x → P x
@@ -86,22 +86,22 @@ insert_end (x ∷ xs) zero y e = absurd (omega (arith, e))
 insert_end {A} (x ∷ xs) (suc i) y e = ap (λ (zs : List A). x ∷ zs) (insert_end xs i y (omega (arith, e)))
 
 -- a link behind which none comes belongs at the end
-end_place : (ws : List Wire) (from to place : ℕ) → BelongsAt ws from to place → All (λ (w : Wire). ComesBefore w (fresh_link from to)) ws → place ≡ length ws
+end_place : (ws : List Wire) (from to place : ℕ) → BelongsAt ws from to place → All (λ (w : Wire). IsLowerLink w (fresh_link from to)) ws → place ≡ length ws
 end_place ws from to place at all = elim (cases_lt place (length ws)) [
   | inl lt ↦
       let w = there ws place lt in
-      absurd (both_before w.0 (fresh_link from to) (all_at (λ (v : Wire). ComesBefore v (fresh_link from to)) ws place w.0 all w.1) (at.above place w.0 w.1 (omega arith)))
+      absurd (both_before w.0 (fresh_link from to) (all_at (λ (v : Wire). IsLowerLink v (fresh_link from to)) ws place w.0 all w.1) (at.above place w.0 w.1 (omega arith)))
   | inr past ↦ let inside = at.inside in omega (arith, past, inside)
 ]
 
 -- the links of a plan that has one more, behind which none comes
-pub kept_end : {W : Type 0} (p q : NodePlan W) (from to : ℕ) (t : LinkTail (ℕ × Message)) (h : LinkHead (ℕ × Message)) → All (λ (w : Wire). ComesBefore w (fresh_link from to)) p.kept.items → IsNewLink p from to t h q
+pub kept_end : {W : Type 0} (p q : NodePlan W) (from to : ℕ) (t : LinkTail (ℕ × Message)) (h : LinkHead (ℕ × Message)) → All (λ (w : Wire). IsLowerLink w (fresh_link from to)) p.kept.items → IsNewLink p from to t h q
     → q.kept.items ≡ p.kept.items ++ fresh_link from to ∷ []
 kept_end p q from to t h before new = new.kept_is ∙ insert_end p.kept.items new.place (fresh_link from to) (end_place p.kept.items from to new.place new.at before)
 
 module _ (tails : List (List Tail)) (heads : List (List Head)) (from to : ℕ) (t : LinkTail (ℕ × Message)) (h : LinkHead (ℕ × Message)) (in_tails : from < length tails) (in_heads : to < length heads) where
   -- a link that comes before the new one leads as before
-  pub leads_still : (w : Wire) (e : InnerEnds) → ComesBefore w (fresh_link from to) → LeadsBetween tails heads w e → LeadsBetween (pushed from (to, t) tails) (pushed to (from, h) heads) w e
+  pub leads_still : (w : Wire) (e : InnerEnds) → IsLowerLink w (fresh_link from to) → LeadsBetween tails heads w e → LeadsBetween (pushed from (to, t) tails) (pushed to (from, h) heads) w e
   leads_still w e before l = record {
     drains = record {
       each = λ k x s is. elim (stands_pushed tails from (to, t) w.sender k x in_tails s) [
@@ -121,7 +121,7 @@ module _ (tails : List (List Tail)) (heads : List (List Head)) (from to : ℕ) (
   }
 
   -- and so does the new one, where it leads from node to node
-  pub leads_new : {W : Type 0} (p : NodePlan W) (e : InnerEnds) → ComeBefore p from to tails heads → AreEnds t e.drain → AreEnds e.feed h → sent_on e.feed ≡ [] → taken_from e.drain ≡ []
+  pub leads_new : {W : Type 0} (p : NodePlan W) (e : InnerEnds) → AreLinksBefore p from to tails heads → AreEnds t e.drain → AreEnds e.feed h → sent_on e.feed ≡ [] → taken_from e.drain ≡ []
       → LeadsBetween (pushed from (to, t) tails) (pushed to (from, h) heads) (fresh_link from to) e
   leads_new p e before drains feeds unsent untaken = record {
     drains = record {
@@ -142,17 +142,17 @@ module _ (tails : List (List Tail)) (heads : List (List Head)) (from to : ℕ) (
   }
 
   -- where the plan is as before, all of its links lead as before
-  pub all_still : {W : Type 0} (p q : NodePlan W) → ComeBefore p from to tails heads → q.kept.items ≡ p.kept.items → q.ends.items ≡ p.ends.items → AllLead p tails heads
+  pub all_still : {W : Type 0} (p q : NodePlan W) → AreLinksBefore p from to tails heads → q.kept.items ≡ p.kept.items → q.ends.items ≡ p.ends.items → AllLead p tails heads
       → AllLead q (pushed from (to, t) tails) (pushed to (from, h) heads)
   all_still p q before kept ends all = record {
     each = λ k w e at_w at_e.
         let in_w = subst (λ (ws : List Wire). slice_get ws k ≡ Some w) kept at_w in
         let in_e = subst (λ (es : List InnerEnds). slice_get es k ≡ Some e) ends at_e in
-        leads_still w e (all_at (λ (v : Wire). ComesBefore v (fresh_link from to)) p.kept.items k w before.kept in_w) (all.each k w e in_w in_e);
+        leads_still w e (all_at (λ (v : Wire). IsLowerLink v (fresh_link from to)) p.kept.items k w before.kept in_w) (all.each k w e in_w in_e);
   }
 
   -- and where it has the new link besides, all lead
-  pub all_more : {W : Type 0} (p q : NodePlan W) → length p.ends.items ≡ length p.kept.items → ComeBefore p from to tails heads → IsNewLink p from to t h q → AllLead p tails heads
+  pub all_more : {W : Type 0} (p q : NodePlan W) → length p.ends.items ≡ length p.kept.items → AreLinksBefore p from to tails heads → IsNewLink p from to t h q → AllLead p tails heads
       → AllLead q (pushed from (to, t) tails) (pushed to (from, h) heads)
   all_more p q alike before new all =
       let end : new.place ≡ length p.kept.items = end_place p.kept.items from to new.place new.at before.kept in
@@ -161,7 +161,7 @@ module _ (tails : List (List Tail)) (heads : List (List Head)) (from to : ℕ) (
       record {
         each = λ k w e at_w at_e. elim (last_at p.kept.items (fresh_link from to) w k (subst (λ (ws : List Wire). slice_get ws k ≡ Some w) kept at_w)) [
           | inl old_w ↦ let lt = slice_get_within p.kept.items k w old_w in elim (last_at p.ends.items new.ends e k (subst (λ (es : List InnerEnds). slice_get es k ≡ Some e) ends at_e)) [
-            | inl old_e ↦ leads_still w e (all_at (λ (v : Wire). ComesBefore v (fresh_link from to)) p.kept.items k w before.kept old_w) (all.each k w e old_w old_e)
+            | inl old_e ↦ leads_still w e (all_at (λ (v : Wire). IsLowerLink v (fresh_link from to)) p.kept.items k w before.kept old_w) (all.each k w e old_w old_e)
             | inr new_e ↦ let long = new_e.0 in absurd (omega (arith, lt, long, alike))
           ]
           | inr new_w ↦ let long = new_w.0 in elim (last_at p.ends.items new.ends e k (subst (λ (es : List InnerEnds). slice_get es k ≡ Some e) ends at_e)) [
@@ -175,25 +175,25 @@ module _ (tails : List (List Tail)) (heads : List (List Head)) (from to : ℕ) (
       }
 
   -- all that came before the new link, and it itself, come before a later one
-  pub come_before : {W : Type 0} (p q : NodePlan W) (from' to' : ℕ) → ComesBefore (fresh_link from to) (fresh_link from' to') → ComeBefore p from to tails heads
-      → (q.kept.items ≡ p.kept.items) ⊎ (q.kept.items ≡ p.kept.items ++ fresh_link from to ∷ []) → ComeBefore q from' to' (pushed from (to, t) tails) (pushed to (from, h) heads)
+  pub come_before : {W : Type 0} (p q : NodePlan W) (from' to' : ℕ) → IsLowerLink (fresh_link from to) (fresh_link from' to') → AreLinksBefore p from to tails heads
+      → (q.kept.items ≡ p.kept.items) ⊎ (q.kept.items ≡ p.kept.items ++ fresh_link from to ∷ []) → AreLinksBefore q from' to' (pushed from (to, t) tails) (pushed to (from, h) heads)
   come_before p q from' to' later before kept = record {
     kept = kept_before p q from' to' later before.kept kept;
     at_tails = λ i k x s. elim (stands_pushed tails from (to, t) i k x in_tails s) [
       | inl old ↦ then_before (fresh_link i x.0) (fresh_link from to) (fresh_link from' to') (before.at_tails i k x old) later
-      | inr new ↦ subst (λ (m : ℕ). ComesBefore (fresh_link m x.0) (fresh_link from' to')) (sym new.0)
-          (subst (λ (y : Tail). ComesBefore (fresh_link from y.0) (fresh_link from' to')) (sym new.1) later)
+      | inr new ↦ subst (λ (m : ℕ). IsLowerLink (fresh_link m x.0) (fresh_link from' to')) (sym new.0)
+          (subst (λ (y : Tail). IsLowerLink (fresh_link from y.0) (fresh_link from' to')) (sym new.1) later)
     ];
     at_heads = λ j k x s. elim (stands_pushed heads to (from, h) j k x in_heads s) [
       | inl old ↦ then_before (fresh_link x.0 j) (fresh_link from to) (fresh_link from' to') (before.at_heads j k x old) later
-      | inr new ↦ subst (λ (m : ℕ). ComesBefore (fresh_link x.0 m) (fresh_link from' to')) (sym new.0)
-          (subst (λ (y : Head). ComesBefore (fresh_link y.0 to) (fresh_link from' to')) (sym new.1) later)
+      | inr new ↦ subst (λ (m : ℕ). IsLowerLink (fresh_link x.0 m) (fresh_link from' to')) (sym new.0)
+          (subst (λ (y : Head). IsLowerLink (fresh_link y.0 to) (fresh_link from' to')) (sym new.1) later)
     ];
   }
     where
-      kept_before : {W : Type 0} (p q : NodePlan W) (from' to' : ℕ) → ComesBefore (fresh_link from to) (fresh_link from' to') → All (λ (w : Wire). ComesBefore w (fresh_link from to)) p.kept.items
-          → (q.kept.items ≡ p.kept.items) ⊎ (q.kept.items ≡ p.kept.items ++ fresh_link from to ∷ []) → All (λ (w : Wire). ComesBefore w (fresh_link from' to')) q.kept.items
-      kept_before p q from' to' later all (inl same) = subst (λ (ws : List Wire). All (λ (w : Wire). ComesBefore w (fresh_link from' to')) ws) (sym same) (all_then p.kept.items (fresh_link from to) (fresh_link from' to') later all)
-      kept_before p q from' to' later all (inr more) = subst (λ (ws : List Wire). All (λ (w : Wire). ComesBefore w (fresh_link from' to')) ws) (sym more)
-          (All-append (λ (w : Wire). ComesBefore w (fresh_link from' to')) p.kept.items (fresh_link from to ∷ []) (all_then p.kept.items (fresh_link from to) (fresh_link from' to') later all)
-          (All-cons (λ (w : Wire). ComesBefore w (fresh_link from' to')) (fresh_link from to) [] later (All-nil (λ (w : Wire). ComesBefore w (fresh_link from' to')))))
+      kept_before : {W : Type 0} (p q : NodePlan W) (from' to' : ℕ) → IsLowerLink (fresh_link from to) (fresh_link from' to') → All (λ (w : Wire). IsLowerLink w (fresh_link from to)) p.kept.items
+          → (q.kept.items ≡ p.kept.items) ⊎ (q.kept.items ≡ p.kept.items ++ fresh_link from to ∷ []) → All (λ (w : Wire). IsLowerLink w (fresh_link from' to')) q.kept.items
+      kept_before p q from' to' later all (inl same) = subst (λ (ws : List Wire). All (λ (w : Wire). IsLowerLink w (fresh_link from' to')) ws) (sym same) (all_then p.kept.items (fresh_link from to) (fresh_link from' to') later all)
+      kept_before p q from' to' later all (inr more) = subst (λ (ws : List Wire). All (λ (w : Wire). IsLowerLink w (fresh_link from' to')) ws) (sym more)
+          (All-append (λ (w : Wire). IsLowerLink w (fresh_link from' to')) p.kept.items (fresh_link from to ∷ []) (all_then p.kept.items (fresh_link from to) (fresh_link from' to') later all)
+          (All-cons (λ (w : Wire). IsLowerLink w (fresh_link from' to')) (fresh_link from to) [] later (All-nil (λ (w : Wire). IsLowerLink w (fresh_link from' to')))))

@@ -18,7 +18,7 @@ use Rattle.fifo_links.specs.declared.ends.LinkTail.{LinkTail}
 use Rattle.fifo_links.specs.declared.ends.LinkHead.{LinkHead}
 use Rattle.worker_laws.specs.OneNode.{home}
 use Rattle.worker_laws.specs.Wires.{Wire}
-use Rattle.link_records.specs.Differences.{ComesBefore}
+use Rattle.link_records.specs.Differences.{IsLowerLink}
 use Rattle.agent_cells.specs.Links.{Tail, Head}
 use Rattle.agent_cells.specs.Settled.{StandsAt}
 use Rattle.agent_links.specs.Beside.{AreBeside, neighbours_in}
@@ -27,7 +27,7 @@ use Rattle.agent_links.proofs.LinkLaws.{one_added, links_none, own_list, written
 use Rattle.agent_links.proofs.PairLaws.{pairs_more, list_at}
 use Rattle.tcp_links.specs.declared.plan.NodePlan.{NodePlan}
 use Rattle.tcp_links.specs.Plans.{fresh_link, HasNoLink, IsPlan, IsNewLink, IsSamePlan}
-use Rattle.node_seats.specs.Links.{node_in, ComeBefore, AreLinksOver, IsNodeLink, AreNewOver, AddLinksOver, AddAllLinksOver}
+use Rattle.node_seats.specs.Links.{node_in, AreLinksBefore, AreLinksOver, IsNodeLink, AreNewOver, AddLinksOver, AddAllLinksOver}
 use Rattle.node_seats.specs.Seats.{IsSameFrame}
 use Rattle.node_seats.proofs.LeadLaws.{not_before, then_before, all_then, all_at, kept_end, all_still, all_more, come_before}
 use Rattle.node_seats.proofs.KeepLaws.{keeps_still, keeps_more}
@@ -66,27 +66,27 @@ module _ {W : Type 0} where
   link_between p q from to (Err e) apart new = tt
 
   -- links that all come before one are none from the same agent to the same
-  pub no_link : (p : NodePlan W) (from to : ℕ) (ts : List (List Tail)) (hs : List (List Head)) → ComeBefore p from to ts hs → HasNoLink p from to
+  pub no_link : (p : NodePlan W) (from to : ℕ) (ts : List (List Tail)) (hs : List (List Head)) → AreLinksBefore p from to ts hs → HasNoLink p from to
   no_link p from to ts hs before = record {
-    none = λ k w at sender receiver. not_before w (fresh_link from to) (all_at (λ (v : Wire). ComesBefore v (fresh_link from to)) p.kept.items k w before.kept at) sender receiver;
+    none = λ k w at sender receiver. not_before w (fresh_link from to) (all_at (λ (v : Wire). IsLowerLink v (fresh_link from to)) p.kept.items k w before.kept at) sender receiver;
   }
 
   -- and they come before a later one
-  pub before_later : (p : NodePlan W) (from to from' to' : ℕ) (ts : List (List Tail)) (hs : List (List Head)) → ComesBefore (fresh_link from to) (fresh_link from' to') → ComeBefore p from to ts hs → ComeBefore p from' to' ts hs
+  pub before_later : (p : NodePlan W) (from to from' to' : ℕ) (ts : List (List Tail)) (hs : List (List Head)) → IsLowerLink (fresh_link from to) (fresh_link from' to') → AreLinksBefore p from to ts hs → AreLinksBefore p from' to' ts hs
   before_later p from to from' to' ts hs later before = record {
     kept = all_then p.kept.items (fresh_link from to) (fresh_link from' to') later before.kept;
     at_tails = λ i k t s. then_before (fresh_link i t.0) (fresh_link from to) (fresh_link from' to') (before.at_tails i k t s) later;
     at_heads = λ j k h s. then_before (fresh_link h.0 j) (fresh_link from to) (fresh_link from' to') (before.at_heads j k h s) later;
   }
 
-  pub before_in_row : (p : NodePlan W) (from to : ℕ) (ts : List (List Tail)) (hs : List (List Head)) → ComeBefore p from 0 ts hs → ComeBefore p from to ts hs
+  pub before_in_row : (p : NodePlan W) (from to : ℕ) (ts : List (List Tail)) (hs : List (List Head)) → AreLinksBefore p from 0 ts hs → AreLinksBefore p from to ts hs
   before_in_row p from zero ts hs before = before
   before_in_row p from (suc to) ts hs before = before_later p from 0 from (suc to) ts hs (inr (refl, omega arith)) before
 
   -- where there is no link yet, all come before any
-  pub before_none : (p : NodePlan W) (from to : ℕ) (ts : List (List Tail)) (hs : List (List Head)) (n : ℕ) → p.kept.items ≡ [] → ts ≡ replicate n [] → hs ≡ replicate n [] → ComeBefore p from to ts hs
+  pub before_none : (p : NodePlan W) (from to : ℕ) (ts : List (List Tail)) (hs : List (List Head)) (n : ℕ) → p.kept.items ≡ [] → ts ≡ replicate n [] → hs ≡ replicate n [] → AreLinksBefore p from to ts hs
   before_none p from to ts hs n none e f = record {
-    kept = subst (λ (ws : List Wire). All (λ (w : Wire). ComesBefore w (fresh_link from to)) ws) (sym none) (All-nil (λ (w : Wire). ComesBefore w (fresh_link from to)));
+    kept = subst (λ (ws : List Wire). All (λ (w : Wire). IsLowerLink w (fresh_link from to)) ws) (sym none) (All-nil (λ (w : Wire). IsLowerLink w (fresh_link from to)));
     at_tails = λ i k t s. absurd (stands_nowhere n i k t (subst (λ (rows : List (List Tail)). StandsAt (slice_index_or rows i []) k t) e s));
     at_heads = λ j k h s. absurd (stands_nowhere n j k h (subst (λ (rows : List (List Head)). StandsAt (slice_index_or rows j []) k h) f s));
   }
@@ -106,7 +106,7 @@ module _ {W : Type 0} where
       (subst (λ (m : ℕ). AreNewLinks (λ (i : ℕ). home p.nodes m i) pairs count ts hs) (sym agents) n)
 
   module _ (p q : NodePlan W) (plan : IsPlan p) (from to : ℕ) (t : LinkTail (ℕ × Message)) (h : LinkHead (ℕ × Message)) (ts : List (List Tail)) (hs : List (List Head)) (in_tails : from < length ts) (in_heads : to < length hs)
-      (before : ComeBefore p from to ts hs) (new : IsNodeLink p from to t h q) where
+      (before : AreLinksBefore p from to ts hs) (new : IsNodeLink p from to t h q) where
     one_over : (pairs : List (ℕ × ℕ)) (count : ℕ) → AreNewOver p pairs count ts hs → AreNewOver q (pairs ++ (from, to) ∷ []) count (pushed from (to, t) ts) (pushed to (from, h) hs)
     one_over pairs count n = elim (cases_eq (node_in p from) (node_in p to)) [
       | inl here ↦ (let l = new.inside here in record {
@@ -134,10 +134,10 @@ module _ {W : Type 0} where
           subst (λ (xs : List (List Tail)). AreNewOver q (pairs ++ (from, to) ∷ []) count xs is) (sym e)
           (subst (λ (xs : List (List Head)). AreNewOver q (pairs ++ (from, to) ∷ []) count (pushed from (to, t) ts) xs) (sym f) (one_over pairs count n))
 
-      pub added_before : (i j : ℕ) → ComesBefore (fresh_link from to) (fresh_link i j) → ComeBefore q i j us is
+      pub added_before : (i j : ℕ) → IsLowerLink (fresh_link from to) (fresh_link i j) → AreLinksBefore q i j us is
       added_before i j later =
-          subst (λ (xs : List (List Tail)). ComeBefore q i j xs is) (sym e)
-          (subst (λ (xs : List (List Head)). ComeBefore q i j (pushed from (to, t) ts) xs) (sym f) (come_before ts hs from to t h in_tails in_heads p q i j later before kept_or_more))
+          subst (λ (xs : List (List Tail)). AreLinksBefore q i j xs is) (sym e)
+          (subst (λ (xs : List (List Head)). AreLinksBefore q i j (pushed from (to, t) ts) xs) (sym f) (come_before ts hs from to t h in_tails in_heads p q i j later before kept_or_more))
 
   pub added_none : (p : NodePlan W) (from : ℕ) (ts : List (List Tail)) (hs : List (List Head)) → AddLinksOver from [] p ts hs p ts hs
   added_none p from ts hs pairs count n = subst (λ (ps : List (ℕ × ℕ)). AreNewOver p ps count ts hs) (sym (append-nil pairs)) n
@@ -156,8 +156,8 @@ module _ {W : Type 0} where
       subst (λ (ns : List ℕ). AddLinksOver from ns p ts hs r vs js) (sym (next_taken xs k x lt e)) (added_more p q r from x (take k xs) ts us vs hs is js a b)
 
   -- and all before it come before the next
-  pub row_before : (q : NodePlan W) (from k x : ℕ) (xs : List ℕ) (vs : List (List Tail)) (js : List (List Head)) → k < length xs → x ≡ get_or xs k x → ((i j : ℕ) → ComesBefore (fresh_link from x) (fresh_link i j) → ComeBefore q i j vs js)
-      → (j : ℕ) → All (λ y. y < j) (take (k + 1) xs) → ComeBefore q from j vs js
+  pub row_before : (q : NodePlan W) (from k x : ℕ) (xs : List ℕ) (vs : List (List Tail)) (js : List (List Head)) → k < length xs → x ≡ get_or xs k x → ((i j : ℕ) → IsLowerLink (fresh_link from x) (fresh_link i j) → AreLinksBefore q i j vs js)
+      → (j : ℕ) → All (λ y. y < j) (take (k + 1) xs) → AreLinksBefore q from j vs js
   row_before q from k x xs vs js lt e come j all =
       come from j (inr (refl, last_so (λ (y : ℕ). y < j) (take k xs) x (subst (λ (ns : List ℕ). All (λ (y : ℕ). y < j) ns) (next_taken xs k x lt e) all)))
 

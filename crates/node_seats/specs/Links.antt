@@ -4,7 +4,7 @@ use Rattle.std.specs.List.{All, Contains}
 use Rattle.protocol_steps.specs.declared.message.Message.{Message}
 use Rattle.worker_laws.specs.OneNode.{home}
 use Rattle.worker_laws.specs.Wires.{Wire}
-use Rattle.link_records.specs.Differences.{ComesBefore}
+use Rattle.link_records.specs.Differences.{IsLowerLink}
 use Rattle.fifo_links.specs.Link.{AreEnds, sent_on, taken_from}
 use Rattle.fifo_links.specs.declared.ends.LinkTail.{LinkTail}
 use Rattle.fifo_links.specs.declared.ends.LinkHead.{LinkHead}
@@ -41,10 +41,10 @@ module _ {W : Type 0} where
     pub each : (k : ℕ) (w : Wire) (e : InnerEnds) → slice_get p.kept.items k ≡ Some w → slice_get p.ends.items k ≡ Some e → LeadsBetween tails heads w e
 
   -- every link so far comes before one from this agent to that
-  pub record ComeBefore (p : NodePlan W) (from to : ℕ) (tails : List (List Tail)) (heads : List (List Head)) : Type 0 where
-    pub kept : All (λ (w : Wire). ComesBefore w (fresh_link from to)) p.kept.items
-    pub at_tails : (i k : ℕ) (t : Tail) → StandsAt (slice_index_or tails i []) k t → ComesBefore (fresh_link i t.0) (fresh_link from to)
-    pub at_heads : (j k : ℕ) (h : Head) → StandsAt (slice_index_or heads j []) k h → ComesBefore (fresh_link h.0 j) (fresh_link from to)
+  pub record AreLinksBefore (p : NodePlan W) (from to : ℕ) (tails : List (List Tail)) (heads : List (List Head)) : Type 0 where
+    pub kept : All (λ (w : Wire). IsLowerLink w (fresh_link from to)) p.kept.items
+    pub at_tails : (i k : ℕ) (t : Tail) → StandsAt (slice_index_or tails i []) k t → IsLowerLink (fresh_link i t.0) (fresh_link from to)
+    pub at_heads : (j k : ℕ) (h : Head) → StandsAt (slice_index_or heads j []) k h → IsLowerLink (fresh_link h.0 j) (fresh_link from to)
 
   -- agents with these neighbours are linked in the nodes of a plan; the plan has a link from each
   -- agent to each of its neighbours in another node, and no other, and nothing has passed on these

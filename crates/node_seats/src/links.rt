@@ -6,9 +6,9 @@ ghost use Rattle.std.specs.List.Sorted.{IsStrictlyIncreasing};
 ghost use Rattle.dcop_base.specs.Limits.{variable_limit};
 ghost use Rattle.agent_links.specs.Beside.{AreBeside, neighbours_in};
 ghost use Rattle.agent_links.specs.Links.{rows_in, pushed};
-ghost use Rattle.link_records.specs.Differences.{ComesBefore};
+ghost use Rattle.link_records.specs.Differences.{IsLowerLink};
 ghost use Rattle.tcp_links.specs.Plans.{IsPlan, IsNewPlan, IsSamePlan, HasNoLink, fresh_link};
-ghost use Rattle.node_seats.specs.Links.{AreLinksOver, IsNodeLink, ComeBefore, AddLinksOver, AddAllLinksOver};
+ghost use Rattle.node_seats.specs.Links.{AreLinksOver, IsNodeLink, AreLinksBefore, AddLinksOver, AddAllLinksOver};
 ghost use Rattle.node_seats.specs.Seats.{IsSameFrame};
 
 use agent_cells::{HeadList, Sealed, TailList};
@@ -73,7 +73,7 @@ fn link_rows<W: Wire>(
     requires plan { IsNewPlan (length known.now) plan.old.nodes plan.old }
     requires tails { length tails.old ≡ length known.now }
     requires heads { length heads.old ≡ length known.now }
-    requires before { ComeBefore plan.old 0 0 (rows_in tails.old) (rows_in heads.old) }
+    requires before { AreLinksBefore plan.old 0 0 (rows_in tails.old) (rows_in heads.old) }
     ensures added { OnOk result (AddAllLinksOver (neighbours_in known.now) plan.old (rows_in tails.old) (rows_in heads.old) plan.new (rows_in tails.new) (rows_in heads.new)) }
     ensures frame { IsSameFrame plan.old plan.new }
     ensures tails { length tails.new ≡ length tails.old }
@@ -100,9 +100,9 @@ fn link_row<W: Wire>(
     requires from { from < plan.old.agents }
     requires to { All (λ j. j < plan.old.agents) neighbours.now }
     requires ascend { IsStrictlyIncreasing neighbours.now }
-    requires before { ComeBefore plan.old from 0 (rows_in tails.old) (rows_in heads.old) }
+    requires before { AreLinksBefore plan.old from 0 (rows_in tails.old) (rows_in heads.old) }
     ensures added { OnOk result (AddLinksOver from neighbours.now plan.old (rows_in tails.old) (rows_in heads.old) plan.new (rows_in tails.new) (rows_in heads.new)) }
-    ensures before { OnOk result (ComeBefore plan.new (from + 1) 0 (rows_in tails.new) (rows_in heads.new)) }
+    ensures before { OnOk result (AreLinksBefore plan.new (from + 1) 0 (rows_in tails.new) (rows_in heads.new)) }
     ensures frame { IsSameFrame plan.old plan.new }
     ensures tails { length tails.new ≡ length tails.old }
     ensures heads { length heads.new ≡ length heads.old }
@@ -127,9 +127,9 @@ fn link_one<W: Wire>(
     requires heads { length heads.old ≡ plan.old.agents }
     requires from { from < plan.old.agents }
     requires to { to < plan.old.agents }
-    requires before { ComeBefore plan.old from to (rows_in tails.old) (rows_in heads.old) }
+    requires before { AreLinksBefore plan.old from to (rows_in tails.old) (rows_in heads.old) }
     ensures added { OnOk result (AddLinksOver from (to ∷ []) plan.old (rows_in tails.old) (rows_in heads.old) plan.new (rows_in tails.new) (rows_in heads.new)) }
-    ensures before { OnOk result ((i j : ℕ) → ComesBefore (fresh_link from to) (fresh_link i j) → ComeBefore plan.new i j (rows_in tails.new) (rows_in heads.new)) }
+    ensures before { OnOk result ((i j : ℕ) → IsLowerLink (fresh_link from to) (fresh_link i j) → AreLinksBefore plan.new i j (rows_in tails.new) (rows_in heads.new)) }
     ensures frame { IsSameFrame plan.old plan.new }
     ensures tails { length tails.new ≡ length tails.old }
     ensures heads { length heads.new ≡ length heads.old }

@@ -8,7 +8,7 @@ use Rattle.answer_io.specs.declared.status.Status.{Status}
 use Rattle.answer_io.specs.declared.status.Status.TheVariants as statuses
 use Rattle.answer_io.specs.Input.{Input, SourceState, IsReadFrom}
 use Rattle.answer_io.specs.Output.{SinkState}
-use Rattle.answer_io.specs.Showing.{IsShown, IsCut}
+use Rattle.answer_io.specs.Showing.{IsWholeShown, IsCutShort}
 use Rattle.answer_io.specs.Whole.{whole_read}
 use Rattle.order_top.specs.declared.words.Asked.{Asked}
 use Rattle.order_top.specs.Words.{order_answer_to}
@@ -25,7 +25,7 @@ pub record IsAnswered (words : List (List ℕ)) (before after : SourceState) (an
 pub record Orders (words : List (List ℕ)) (source source' : SourceState) (sink sink' : SinkState) (status : Status) : Type 0 where
   pub answer : Answer
   pub answered : IsAnswered words source source' answer
-  pub shown : IsShown answer sink sink' status ⊎ IsCut answer sink sink' status
+  pub shown : IsWholeShown answer sink sink' status ⊎ IsCutShort answer sink sink' status
 
 -- words and a text are accepted
 pub record IsAccepted (words : List (List ℕ)) (text : List ℕ) : Type 0 where

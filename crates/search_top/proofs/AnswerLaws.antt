@@ -7,7 +7,7 @@ use Rattle.solve_words.specs.declared.fault.WordFault.TheVariants as words
 use Rattle.solve_report.specs.declared.answer.Answer.{Answer}
 use Rattle.solve_report.specs.declared.answer.Answer.TheVariants as answers
 use Rattle.answer_io.specs.Inputs.{input_read}
-use Rattle.answer_io.specs.InputTold.{Told}
+use Rattle.answer_io.specs.InputTold.{DeclaredInput}
 use Rattle.answer_io.proofs.RefusalLaws.{input_told}
 use Rattle.answer_io.specs.declared.status.Status.TheVariants.{ReadFault}
 use Rattle.answer_io.proofs.InputLaws.{taken-least, count-stays}
@@ -39,7 +39,7 @@ text-answered words asked before after bytes slice (Ok answer) told read same is
     input-answered words asked before after (Whole bytes) answer told read (subst (λ (t : List ℕ). IsTextAnswer asked (input_read asked.format t) answer) same is)
 text-answered words asked before after bytes slice (Err none) told read same is = tt
 
-text-sound : (asked : Asked) (read : Result Told Answer) → ¬ (read ≡ Err answers.Read) → ¬ IsTextAnswer asked read (Refused answers.Read)
+text-sound : (asked : Asked) (read : Result DeclaredInput Answer) → ¬ (read ≡ Err answers.Read) → ¬ IsTextAnswer asked read (Refused answers.Read)
 text-sound asked (Ok told) other is = is
 text-sound asked (Err refusal) other is =
     let same : refusal ≡ answers.Read = cc is in
@@ -79,7 +79,7 @@ stays-answered words before after answer done =
     (λ broken. asked-broken (search_answer_to words) answer (subst (λ (i : Input). IsAskedAnswer (search_answer_to words) i answer) broken done.belongs))
 
 -- the report of a search is a good answer
-file-well : (asked : Asked) (told : Told) (answer : SearchAnswer) → IsFileAnswer asked told answer → GoesWell (search_status_of answer)
+file-well : (asked : Asked) (told : DeclaredInput) (answer : SearchAnswer) → IsFileAnswer asked told answer → GoesWell (search_status_of answer)
 file-well asked told (Searched report file) is = ending-well report.ending
 file-well asked told (Refused refusal) is = absurd is
 
@@ -93,7 +93,7 @@ input-well words text accepted before after TooLong answer told steady read is =
 input-well words text accepted before after (Whole bytes) answer told steady read is =
     let all = subst (λ (l : Option (List ℕ)). IsAllOf bytes l after.left) told read.1 in
     file-well accepted.asked accepted.told answer
-    (subst (λ (r : Result Told Answer). IsTextAnswer accepted.asked r answer) accepted.read (subst (λ (t : List ℕ). IsTextAnswer accepted.asked (input_read accepted.asked.format t) answer) all.0 is))
+    (subst (λ (r : Result DeclaredInput Answer). IsTextAnswer accepted.asked r answer) accepted.read (subst (λ (t : List ℕ). IsTextAnswer accepted.asked (input_read accepted.asked.format t) answer) all.0 is))
 
 pub well-answered : (words : List (List ℕ)) (text : List ℕ) (before after : SourceState) (answer : SearchAnswer) → IsAnswered words before after answer
     → before.left ≡ Some text → IsAccepted words text → ¬ Rose before.faults after.faults → GoesWell (search_status_of answer)

@@ -7,12 +7,12 @@ use Rattle.dcop_base.specs.Problem.{Dcop, cost}
 use Rattle.dcop_base.specs.declared.memory.NoMemory.{NoMemory}
 use Rattle.shared_costs.specs.Shared.{AreSharedCosts}
 use Rattle.shared_costs.specs.declared.shared.SharedCosts.{SharedCosts}
-use Rattle.bucket_bounds.specs.Bounds.{AreBounds, kept_cells}
+use Rattle.bucket_bounds.specs.Bounds.{AreBucketBounds, kept_cells}
 use Rattle.bucket_bounds.specs.MiniBuckets.{AreMiniBuckets}
 use Rattle.bucket_bounds.specs.Parting.{IsPartedDuly}
 use Rattle.bucket_bounds.specs.declared.bucket.Bucket.{Bucket}
 use Rattle.bound_search.specs.Known.{IsKnown, IsNoWorse, IsBelow}
-use Rattle.bound_search.specs.Searched.{HasEnded, IsSpent, EndsSo, IsSearched, most_nodes}
+use Rattle.bound_search.specs.Searched.{HasSearchEnded, IsSpent, EndsSo, IsBoundSearch, most_nodes}
 use Rattle.bound_search.specs.declared.known.Known.{Known}
 use Rattle.bound_search.specs.declared.searching.Ended.{Ended}
 use Rattle.search_top.specs.Report.{most_visited}
@@ -70,7 +70,7 @@ ends_whole error budget whole known ended ends how = elim ends [
 ]
 
 -- a search that has ended is not spent
-pub has_ended : (error budget : ℕ) (known : Known) (ended : Ended) → EndsSo error budget known ended → ended.spent ≡ false → HasEnded error known ended.lower
+pub has_ended : (error budget : ℕ) (known : Known) (ended : Ended) → EndsSo error budget known ended → ended.spent ≡ false → HasSearchEnded error known ended.lower
 has_ended error budget known ended ends none = elim ends [
   | inl done ↦ done.1
   | inr spent ↦ absurd (not_both ended.spent none spent.0)
@@ -83,7 +83,7 @@ has_spent error budget known ended ends spent = elim ends [
 ]
 
 -- so it has by a greater bound
-ended_above : (error : ℕ) (known : Known) (low lower : ℕ) → low ≤ lower → HasEnded error known low → HasEnded error known lower
+ended_above : (error : ℕ) (known : Known) (low lower : ℕ) → low ≤ lower → HasSearchEnded error known low → HasSearchEnded error known lower
 ended_above error known low lower above done = record {
   best = done.best;
   known_is = done.known_is;
@@ -95,9 +95,9 @@ min_is a b few = omega (arith, few)
 
 -- a stage, by what was made in it
 pub stage_made : (p : Dcop) (shared : SharedCosts) (asked : Asked) (budget limit : ℕ) (before : Outcome) (buckets : List Bucket) (known : Known) (own : Ended) (lower : ℕ) (spent : Bool)
-    → before.ended.spent ≡ true → budget ≤ asked.budget → limit ≤ joined_limit → AreBounds p.sizes shared.depths buckets
+    → before.ended.spent ≡ true → budget ≤ asked.budget → limit ≤ joined_limit → AreBucketBounds p.sizes shared.depths buckets
     → AreMiniBuckets p.sizes (min limit joined_limit) asked.cells 0 buckets → All (IsPartedDuly p.sizes (min limit joined_limit)) buckets → kept_cells buckets ≤ asked.cells
-    → IsSearched p shared.scale buckets asked.error budget before.known known own → lower ≡ max own.lower before.ended.lower
+    → IsBoundSearch p shared.scale buckets asked.error budget before.known known own → lower ≡ max own.lower before.ended.lower
     → (spent ≡ true → (own.spent ≡ true) × IsApart asked.error known.best lower)
     → (spent ≡ false → (own.spent ≡ false) ⊎ ((sum : ℕ) × (known.best ≡ Some sum) × (sum ≤ lower + asked.error)))
     → IsStage p shared asked budget limit before (record { known = known; ended = record { lower = lower; spent = spent } })

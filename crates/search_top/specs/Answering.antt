@@ -10,7 +10,7 @@ use Rattle.solve_words.specs.declared.fault.WordFault.{WordFault}
 use Rattle.solve_words.specs.declared.fault.WordFault.TheVariants as words
 use Rattle.answer_io.specs.Input.{Input, Unread, Broken, TooLong, Whole}
 use Rattle.answer_io.specs.Inputs.{input_read}
-use Rattle.answer_io.specs.InputTold.{Told}
+use Rattle.answer_io.specs.InputTold.{DeclaredInput}
 use Rattle.search_top.specs.Report.{IsSearchReport}
 use Rattle.search_top.specs.Text.{AreTold}
 use Rattle.search_top.specs.Words.{search_answer_to}
@@ -19,12 +19,12 @@ use Rattle.search_top.specs.declared.answer.SearchAnswer.TheVariants.{Searched, 
 use Rattle.search_top.specs.declared.words.Asked.{Asked}
 
 -- the answer to a text that was read: the report of a search on the file that it describes
-abbrev pub IsFileAnswer : Asked → Told → SearchAnswer → Type 0
+abbrev pub IsFileAnswer : Asked → DeclaredInput → SearchAnswer → Type 0
 IsFileAnswer asked told (Searched report file) = (declared_by file ≡ told.declared) × IsProblem file.problem × IsSearchReport file.goal file.problem asked report
 IsFileAnswer asked told (Refused refusal) = ⊥
 
 -- the answer to a text that is read as this
-abbrev pub IsTextAnswer : Asked → Result Told Answer → SearchAnswer → Type 0
+abbrev pub IsTextAnswer : Asked → Result DeclaredInput Answer → SearchAnswer → Type 0
 IsTextAnswer asked (Ok told) answer = IsFileAnswer asked told answer
 IsTextAnswer asked (Err refusal) answer = answer ≡ Refused refusal
 

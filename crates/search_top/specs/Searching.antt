@@ -6,7 +6,7 @@ use Rattle.answer_io.specs.declared.status.Status.TheVariants as statuses
 use Rattle.answer_io.specs.Input.{Input, SourceState, IsReadFrom}
 use Rattle.answer_io.specs.Output.{SinkState}
 use Rattle.answer_io.specs.Inputs.{input_read}
-use Rattle.answer_io.specs.InputTold.{Told}
+use Rattle.answer_io.specs.InputTold.{DeclaredInput}
 use Rattle.search_top.specs.Answering.{IsSearchAnswer}
 use Rattle.search_top.specs.Showing.{IsShown, IsCut}
 use Rattle.search_top.specs.Words.{search_answer_to}
@@ -30,7 +30,7 @@ pub record IsAccepted (words : List (List ℕ)) (text : List ℕ) : Type 0 where
   pub asked : Asked
   pub answered : search_answer_to words ≡ Ok asked
   pub short : length text ≤ input_limit
-  pub told : Told
+  pub told : DeclaredInput
   pub read : input_read asked.format text ≡ Ok told
 
 -- the call wrote a report, or ran out of memory

@@ -4,11 +4,11 @@ use Rattle.std.specs.List.{All}
 use Rattle.dcop_base.specs.Limits.{joined_limit}
 use Rattle.dcop_base.specs.Problem.{Dcop}
 use Rattle.shared_costs.specs.declared.shared.SharedCosts.{SharedCosts}
-use Rattle.bucket_bounds.specs.Bounds.{AreBounds, kept_cells}
+use Rattle.bucket_bounds.specs.Bounds.{AreBucketBounds, kept_cells}
 use Rattle.bucket_bounds.specs.MiniBuckets.{AreMiniBuckets}
 use Rattle.bucket_bounds.specs.Parting.{IsPartedDuly}
 use Rattle.bucket_bounds.specs.declared.bucket.Bucket.{Bucket}
-use Rattle.bound_search.specs.Searched.{HasEnded, IsSearched}
+use Rattle.bound_search.specs.Searched.{HasSearchEnded, IsBoundSearch}
 use Rattle.bound_search.specs.declared.searching.Ended.{Ended}
 use Rattle.search_top.specs.declared.stages.Outcome.{Outcome}
 use Rattle.search_top.specs.declared.words.Asked.{Asked}
@@ -30,16 +30,16 @@ pub record IsStage (p : Dcop) (shared : SharedCosts) (asked : Asked) (budget lim
   pub needed : before.ended.spent ≡ true
   pub within : budget ≤ asked.budget
   pub buckets : List Bucket
-  pub bounds : AreBounds p.sizes shared.depths buckets
+  pub bounds : AreBucketBounds p.sizes shared.depths buckets
   pub joined : limit ≤ joined_limit
   pub mini : AreMiniBuckets p.sizes limit asked.cells 0 buckets
   pub parted : All (IsPartedDuly p.sizes limit) buckets
   pub kept : kept_cells buckets ≤ asked.cells
   pub own : Ended
-  pub searched : IsSearched p shared.scale buckets asked.error budget before.known after.known own
+  pub searched : IsBoundSearch p shared.scale buckets asked.error budget before.known after.known own
   pub lower : after.ended.lower ≡ max own.lower before.ended.lower
   pub spent : after.ended.spent ≡ true → (own.spent ≡ true) × IsApart asked.error after.known.best after.ended.lower
-  pub ended : after.ended.spent ≡ false → HasEnded asked.error after.known after.ended.lower
+  pub ended : after.ended.spent ≡ false → HasSearchEnded asked.error after.known after.ended.lower
 
 -- the outcome of `count` stages, one after the other, all of the same shared costs: the first starts from nothing, each next one from the outcome of those before it, with a greater limit than theirs; the last one has this limit
 abbrev pub AreStages : Dcop → SharedCosts → Asked → Option ℕ → ℕ → ℕ → Outcome → Type 0

@@ -6,7 +6,7 @@ use Rattle.serve_top.specs.declared.words.ServeWords.{ServeWords}
 use Rattle.serve_top.specs.declared.words.Refused.{Refused}
 use Rattle.serve_top.specs.declared.answer.ServeAnswer.{ServeAnswer}
 use Rattle.serve_top.specs.declared.answer.ServeAnswer.TheVariants as answers
-use Rattle.serve_top.specs.Serving.{status_of, Listening, Sinking, IsServeAnswer, Shows, HasAnswered}
+use Rattle.serve_top.specs.Serving.{status_of, Listening, Sinking, IsServeAnswer, ShowsSummary, HasAnswered}
 use Rattle.serve_top.specs.declared.status.ServeStatus.{ServeStatus}
 use Rattle.serve_top.specs.declared.status.ServeStatus.TheVariants.{Solved, BadWords, WriteFault, NoMemory, LinkFault}
 
@@ -16,12 +16,12 @@ not_write (answers.Words at kind) e = cc
 not_write answers.Link e = cc
 not_write (answers.Summary ends looks) e = cc
 
-pub write_so : (answer : ServeAnswer) (sink sink' : Sinking) (status : ServeStatus) → Shows answer sink sink' status → status ≡ WriteFault → Rose sink.faults sink'.faults
+pub write_so : (answer : ServeAnswer) (sink sink' : Sinking) (status : ServeStatus) → ShowsSummary answer sink sink' status → status ≡ WriteFault → Rose sink.faults sink'.faults
 write_so answer sink sink' status (inl shown) e = absurd (not_write answer (sym shown.0 ∙ e))
 write_so answer sink sink' status (inr cut) e = cut.3
 
 -- if the sink's count of faults rose while an answer was shown, the status is a failed writing
-pub sink_so : (answer : ServeAnswer) (sink sink' : Sinking) (status : ServeStatus) → Shows answer sink sink' status → sink.faults < sink'.faults → status ≡ WriteFault
+pub sink_so : (answer : ServeAnswer) (sink sink' : Sinking) (status : ServeStatus) → ShowsSummary answer sink sink' status → sink.faults < sink'.faults → status ≡ WriteFault
 sink_so answer sink sink' status (inl shown) lt = absurd (let same = shown.3 in omega (arith, lt, same))
 sink_so answer sink sink' status (inr cut) lt = cut.0
 

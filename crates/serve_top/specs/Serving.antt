@@ -64,12 +64,12 @@ module _ {S K : Type 0} (left : S → Option (List ℕ)) (reads : S → ℕ) (he
 
 -- the whole text of an answer was written and the sink is finished; or the sink failed after a
 -- prefix of it
-abbrev pub Shows : ServeAnswer → Sinking → Sinking → ServeStatus → Type 0
-Shows answer before after status =
+abbrev pub ShowsSummary : ServeAnswer → Sinking → Sinking → ServeStatus → Type 0
+ShowsSummary answer before after status =
     ((status ≡ status_of answer) × Adds before.held (answer_text answer) after.held × (after.finished ≡ true) × (after.faults ≡ before.faults))
     ⊎ ((status ≡ WriteFault) × ((count : ℕ) × (count ≤ length (answer_text answer)) × Adds before.held (take count (answer_text answer)) after.held) × (before.faults ≤ after.faults) × Rose before.faults after.faults)
 
 -- an answer that belongs to words and to what the listener gave was shown
 abbrev pub HasAnswered : {S K : Type 0} → (S → Option (List ℕ)) → (S → ℕ) → (K → Option (List ℕ)) → (K → ℕ) → (List ℕ → List ℕ → Type 0) → List (List ℕ) → Listening (S × K) → Listening (S × K) → Sinking → Sinking → ServeStatus → Type 0
 HasAnswered left reads held writes is_reply words listener listener' sink sink' status =
-    (answer : ServeAnswer) × AnswersServe left reads held writes is_reply words listener listener' answer × Shows answer sink sink' status
+    (answer : ServeAnswer) × AnswersServe left reads held writes is_reply words listener listener' answer × ShowsSummary answer sink sink' status

@@ -5,6 +5,6 @@ use Rattle.serve_top.specs.declared.answer.ServeAnswer.{ServeAnswer}
 use Rattle.serve_top.specs.declared.answer.ServeAnswer.TheVariants as answers
 
 -- this answer has a text: the sessions of a summary served fewer than 2^64 requests together
-abbrev pub HasText : ServeAnswer → Type 0
-HasText (answers.Summary ends looks) = served_in ends.items < 2 ^ 64
-HasText answer = ⊤
+abbrev pub HasSummaryText : ServeAnswer → Type 0
+HasSummaryText (answers.Summary ends looks) = served_in ends.items < 2 ^ 64
+HasSummaryText answer = ⊤

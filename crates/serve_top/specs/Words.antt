@@ -44,7 +44,7 @@ words_read (port ∷ clients ∷ entries ∷ workers ∷ []) =
 words_read words = Err (wrong_count (length words))
 
 -- what is asked for is in its range
-pub record IsInRange (asked : ServeWords) : Type 0 where
+pub record AreWordsInRange (asked : ServeWords) : Type 0 where
   pub port : (least_port ≤ asked.port) × (asked.port ≤ most_port)
   pub clients : (1 ≤ asked.clients) × (asked.clients ≤ peer_limit)
   pub entries : (1 ≤ asked.entries) × (asked.entries ≤ entry_limit)

@@ -2,7 +2,7 @@
 
 ghost use Rattle.std.specs.Prelude.{◌≡◌, ◌<◌, ◌^◌, IfOk, ⊤};
 ghost use Rattle.serve_top.specs.Text.{answer_text, served_in};
-ghost use Rattle.serve_top.specs.Told.{HasText};
+ghost use Rattle.serve_top.specs.Told.{HasSummaryText};
 
 use crate::summary::write_summary;
 use dcop_base::{Bytes, NoMemory};
@@ -36,7 +36,7 @@ pub enum ServeAnswer {
 ///
 /// [`NoMemory`] if memory runs out.
 pub fn text_of(alloc: Global, answer: &ServeAnswer) -> Result<Bytes, NoMemory>
-    requires { HasText answer.now }
+    requires { HasSummaryText answer.now }
     ensures { IfOk result (λ text. text ≡ answer_text answer.now) }
 {
     let mut text = String::new(alloc);

@@ -2,9 +2,9 @@
 
 ghost use Rattle.std.specs.Prelude.{◌≡◌, ◌≢◌, ◌<◌, ◌⊎◌, map, string_bytes, IfOk, IsOk, IsErr};
 ghost use Rattle.dcop_edge.specs.Faults.{Rose};
-ghost use Rattle.serve_top.specs.Words.{IsInRange, words_read};
-ghost use Rattle.serve_top.specs.Told.{HasText};
-ghost use Rattle.serve_top.specs.Serving.{listening, sinking, IsServeAnswer, AnswersServe, Shows, HasAnswered};
+ghost use Rattle.serve_top.specs.Words.{AreWordsInRange, words_read};
+ghost use Rattle.serve_top.specs.Told.{HasSummaryText};
+ghost use Rattle.serve_top.specs.Serving.{listening, sinking, IsServeAnswer, AnswersServe, ShowsSummary, HasAnswered};
 
 use crate::answer::{ServeAnswer, text_of};
 use crate::status::ServeStatus;
@@ -90,7 +90,7 @@ fn answer_of<R: Threads + Wait + Sync, L: Listener, M: FreshMaker, G: Gate>(
     ensures belongs { IfOk result (λ answer. AnswersServe L.S.left L.S.faults L.K.held L.K.faults M.is_reply (map string_bytes words.now)
         (listening (L.faults listener.old) (L.waiting listener.old) (L.closed listener.old))
         (listening (L.faults listener.new) (L.waiting listener.new) (L.closed listener.new)) answer) }
-    ensures told { IfOk result HasText }
+    ensures told { IfOk result HasSummaryText }
     ensures none_lent { L.lent listener.new ≡ L.lent listener.old }
 {
     match read_words(words) {
@@ -110,11 +110,11 @@ fn served<R: Threads + Wait + Sync, L: Listener, M: FreshMaker, G: Gate>(
     listener: &mut L,
     gate: &G,
 ) -> Result<ServeAnswer, NoMemory>
-    requires { IsInRange asked }
+    requires { AreWordsInRange asked }
     ensures belongs { IfOk result (λ answer. IsServeAnswer L.S.left L.S.faults L.K.held L.K.faults M.is_reply (Ok asked)
         (listening (L.faults listener.old) (L.waiting listener.old) (L.closed listener.old))
         (listening (L.faults listener.new) (L.waiting listener.new) (L.closed listener.new)) answer) }
-    ensures told { IfOk result HasText }
+    ensures told { IfOk result HasSummaryText }
     ensures none_lent { L.lent listener.new ≡ L.lent listener.old }
 {
     if listener.open(asked.port as u16).is_err() {
@@ -137,8 +137,8 @@ fn served<R: Threads + Wait + Sync, L: Listener, M: FreshMaker, G: Gate>(
 
 /// Writes the whole text of an answer, finishes the sink, and gives the status.
 fn show<K: Sink>(alloc: Global, answer: &ServeAnswer, sink: &mut K) -> ServeStatus
-    requires { HasText answer.now }
-    ensures shows { result ≢ ServeStatus.NoMemory → Shows answer.now (sinking (K.held sink.old) (K.finished sink.old) (K.faults sink.old)) (sinking (K.held sink.new) (K.finished sink.new) (K.faults sink.new)) result }
+    requires { HasSummaryText answer.now }
+    ensures shows { result ≢ ServeStatus.NoMemory → ShowsSummary answer.now (sinking (K.held sink.old) (K.finished sink.old) (K.faults sink.old)) (sinking (K.held sink.new) (K.finished sink.new) (K.faults sink.new)) result }
     ensures unwritten { result ≡ ServeStatus.NoMemory → sink.new ≡ sink.old }
 {
     let Ok(text) = text_of(alloc, answer) else {

@@ -4,7 +4,7 @@ ghost use Rattle.std.specs.Prelude.{◌≡◌, ◌≤◌, map, string_bytes, IfO
 ghost use Rattle.dcop_base.specs.NumberWord.{number_of};
 ghost use Rattle.reply_cache.specs.Limits.{entry_limit};
 ghost use Rattle.solve_serve.specs.Peers.{peer_limit, server_limit};
-ghost use Rattle.serve_top.specs.Words.{least_port, most_port, refused, number_within, all_four, wrong_count, words_read, IsInRange};
+ghost use Rattle.serve_top.specs.Words.{least_port, most_port, refused, number_within, all_four, wrong_count, words_read, AreWordsInRange};
 
 use dcop_base::number_of_word;
 
@@ -38,7 +38,7 @@ pub struct Refused {
 /// The first refusal. The number of words is tested before each word is.
 pub fn read_words(words: &[String]) -> Result<ServeWords, Refused>
     ensures asked { result ≡ words_read (map string_bytes words.now) }
-    ensures range { IfOk result IsInRange }
+    ensures range { IfOk result AreWordsInRange }
 {
     match words {
         [port, clients, entries, workers] => read_four(
@@ -53,7 +53,7 @@ pub fn read_words(words: &[String]) -> Result<ServeWords, Refused>
 
 /// What four words ask for, or their first refusal.
 fn read_four(port: &str, clients: &str, entries: &str, workers: &str) -> Result<ServeWords, Refused>
-    ensures range { IfOk result IsInRange }
+    ensures range { IfOk result AreWordsInRange }
     ensures asked { result ≡ all_four (number_within 1 least_port most_port (number_of port.now)) (number_within 2 1 peer_limit (number_of clients.now)) (number_within 3 1 entry_limit (number_of entries.now)) (number_within 4 1 server_limit (number_of workers.now)) }
 {
     let port = number_within(1, port, 1_024, 65_535)?;

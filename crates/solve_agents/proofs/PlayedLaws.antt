@@ -6,7 +6,7 @@ use Rattle.protocol_steps.specs.View.{View}
 use Rattle.protocol_steps.specs.Network.{Network}
 use Rattle.run_log.specs.declared.log.LogEvent.{LogEvent}
 use Rattle.log_replay.specs.Notes.{IsLogOfRun}
-use Rattle.delivery_turns.specs.PlayedOut.{HavePlayed}
+use Rattle.delivery_turns.specs.PlayedOut.{HavePlayedOut}
 use Rattle.delivery_turns.specs.declared.sprint.PlayedOut.{PlayedOut}
 use Rattle.solve_methods.specs.Kept.{IsLogOf, HaveLogged}
 
@@ -15,5 +15,5 @@ log_in_rounds : (made : List View) (rounds : List (List Event)) (end : Network) 
 log_in_rounds made rounds end None kept = tt
 log_in_rounds made rounds end (Some log) kept = record { same = kept.same; stamped = kept.stamped }
 
-pub logged_by : (budget : ℕ) (made : List View) (certified : Bool) (played : PlayedOut) → HavePlayed budget made certified played → HaveLogged budget made certified (record { outcome = played.outcome; log = played.log })
+pub logged_by : (budget : ℕ) (made : List View) (certified : Bool) (played : PlayedOut) → HavePlayedOut budget made certified played → HaveLogged budget made certified (record { outcome = played.outcome; log = played.log })
 logged_by budget made certified played h = record { run = h.run; asked = h.asked; kept = log_in_rounds made h.run.rounds h.run.end played.log h.kept }

@@ -22,14 +22,14 @@ use Rattle.tcp_links.specs.declared.fault.NodeFault.TheVariants.{Failed, Differs
 use Rattle.tcp_links.specs.declared.plan.NodePlan.{NodePlan}
 use Rattle.tcp_links.specs.Plans.{IsBetween, AreOrdered, IsHonest}
 use Rattle.tcp_links.specs.Ends.{IsDifference, HasDifference, DiffersOver}
-use Rattle.tcp_links.specs.Faults.{IsNoDifference, HasNodeCause}
+use Rattle.tcp_links.specs.Faults.{IsOtherFault, HasNodeCause}
 use Rattle.node_exchange.specs.Honest.{AreHonest}
 use Rattle.node_seats.specs.Links.{node_in, KeepsPairs}
 use Rattle.node_seats.specs.Seats.{IsSameFrame}
 use Rattle.solve_methods.specs.Dpop.{wide_in}
 use Rattle.solve_agents.specs.Differing.{HaveDiffered}
 use Rattle.solve_agents.specs.Phases.{IsPhase}
-use Rattle.solve_agents.specs.Wiring.{IsFaultOf, MayFail}
+use Rattle.solve_agents.specs.Wiring.{IsNodesFaultOf, MayFail}
 
 -- a difference that was come to in a phase of one kind, where that is one of another kind
 differed_in : (p : Dcop) (is_phase is_phase' : Start → ℕ → Type 0) (nodes : ℕ) (d : Difference) → ((start : Start) (most : ℕ) → is_phase' start most → is_phase start most) → HaveDiffered p is_phase' nodes d → HaveDiffered p is_phase nodes d
@@ -51,7 +51,7 @@ differed_in p is_phase is_phase' nodes d kind h = record {
 
 -- a fault behind calls that left the dialer's count as it was, in as many nodes, over links that are honest where these are, in a phase that is of this kind
 module _ (p : Dcop) (is_phase is_phase' : Start → ℕ → Type 0) (nodes nodes' : ℕ) (honest honest' : Type 0) (first old new : ℕ) where
-  fault_behind : (e : NodeFault) → old ≡ first → nodes' ≡ nodes → (honest → honest') → ((start : Start) (most : ℕ) → is_phase' start most → is_phase start most) → IsFaultOf p is_phase' nodes' honest' old new e → IsFaultOf p is_phase nodes honest first new e
+  fault_behind : (e : NodeFault) → old ≡ first → nodes' ≡ nodes → (honest → honest') → ((start : Start) (most : ℕ) → is_phase' start most → is_phase start most) → IsNodesFaultOf p is_phase' nodes' honest' old new e → IsNodesFaultOf p is_phase nodes honest first new e
   fault_behind Failed still many so kind fails =
       subst (λ (k : ℕ). (1 < nodes) × (k ≤ new) × Rose k new) still (subst (λ (k : ℕ). 1 < k) many fails.0, fails.1, fails.2)
   fault_behind (Differs d) still many so kind fails = (
@@ -70,10 +70,10 @@ module _ (p : Dcop) (is_phase is_phase' : Start → ℕ → Type 0) (nodes nodes
 
   -- and with a fault that is handed on
   pub fails_on : {T : Type 0} (r : Result T NodeFault) (e : NodeFault) → IsErrAnd r (λ x. x ≡ e) → old ≡ first → nodes' ≡ nodes → (honest → honest') → ((start : Start) (most : ℕ) → is_phase' start most → is_phase start most)
-      → IsFaultOf p is_phase' nodes' honest' old new e → MayFail {T = T} p is_phase nodes honest first new r
+      → IsNodesFaultOf p is_phase' nodes' honest' old new e → MayFail {T = T} p is_phase nodes honest first new r
   fails_on {T} (Ok value) e is still many so kind fails = absurd is
   fails_on {T} (Err x) e is still many so kind fails =
-      subst (λ (f : NodeFault). IsFaultOf p is_phase nodes honest first new f) (sym is) (fault_behind e still many so kind fails)
+      subst (λ (f : NodeFault). IsNodesFaultOf p is_phase nodes honest first new f) (sym is) (fault_behind e still many so kind fails)
 
 -- what is too wide in the tree that was found is so in the depth-first tree
 pub wide_is : (p : Dcop) (paths : List (List ℕ)) (wide : Option Wide) → paths ≡ dfs p → wide ≡ wide_of p paths → wide_in p ≡ wide
@@ -108,7 +108,7 @@ module _ {W : Type 0} (p : Dcop) (start : Start) (fits : IsStartFor p start) (bu
         (subst (λ (n : ℕ). IsDifference plan.nodes (home plan.nodes n) budget plan.kept.items h.started last d) agents_are h.right);
   }
 
-  pub ran_fails : {T : Type 0} (made : List View) → made ≡ agents_of p start → (many : 1 < before.nodes) (honest : Type 0) (old new : ℕ) (r : Result T NodeFault) → HasNodeCause old new r → (honest → IfErr r IsNoDifference) → IfErr r (DiffersOver budget made plan last)
+  pub ran_fails : {T : Type 0} (made : List View) → made ≡ agents_of p start → (many : 1 < before.nodes) (honest : Type 0) (old new : ℕ) (r : Result T NodeFault) → HasNodeCause old new r → (honest → IfErr r IsOtherFault) → IfErr r (DiffersOver budget made plan last)
       → MayFail {T = T} p (IsPhase start budget) before.nodes honest old new r
   ran_fails made are many honest old new (Ok value) cause none differs = cause
   ran_fails made are many honest old new (Err Failed) cause none differs = (many, cause.0, cause.1)

@@ -34,13 +34,13 @@ module _ {W : Type 0} (told : W → Told) (is_joined : W → W → Type 0) where
 -- that the links between the nodes are honest. The dialer's count of faults rose exactly if the
 -- links failed. A difference was found by agents of the problem, and not over honest links. Neither
 -- fault happens with one node
-abbrev pub IsFaultOf : Dcop → (Start → ℕ → Type 0) → ℕ → Type 0 → ℕ → ℕ → NodeFault → Type 0
-IsFaultOf p is_phase nodes honest old new Failed = (1 < nodes) × (old ≤ new) × Rose old new
-IsFaultOf p is_phase nodes honest old new (Differs d) = (1 < nodes) × (new ≡ old) × (¬ honest) × HaveDiffered p is_phase nodes d
-IsFaultOf p is_phase nodes honest old new NoMemory = new ≡ old
+abbrev pub IsNodesFaultOf : Dcop → (Start → ℕ → Type 0) → ℕ → Type 0 → ℕ → ℕ → NodeFault → Type 0
+IsNodesFaultOf p is_phase nodes honest old new Failed = (1 < nodes) × (old ≤ new) × Rose old new
+IsNodesFaultOf p is_phase nodes honest old new (Differs d) = (1 < nodes) × (new ≡ old) × (¬ honest) × HaveDiffered p is_phase nodes d
+IsNodesFaultOf p is_phase nodes honest old new NoMemory = new ≡ old
 
 -- a call on a problem's agents leaves the dialer's count of faults unchanged, or ends in such a
 -- fault
 abbrev pub MayFail : {T : Type 0} → Dcop → (Start → ℕ → Type 0) → ℕ → Type 0 → ℕ → ℕ → Result T NodeFault → Type 0
 MayFail p is_phase nodes honest old new (Ok value) = new ≡ old
-MayFail p is_phase nodes honest old new (Err fault) = IsFaultOf p is_phase nodes honest old new fault
+MayFail p is_phase nodes honest old new (Err fault) = IsNodesFaultOf p is_phase nodes honest old new fault

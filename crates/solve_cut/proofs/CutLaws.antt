@@ -12,7 +12,7 @@ use Rattle.run_laws.specs.CutSet.{CutSetsAreOne, HasOneCutSet}
 use Rattle.run_laws.specs.Kept.{IsCutAnswer, IsOptimal, CutAnswersAreOptimal}
 use Rattle.run_laws.specs.Turns.{turn_count}
 use Rattle.cut_dpop.specs.Certificate.{KeptTablesCertify}
-use Rattle.cut_dpop.specs.End.{IsCutEnd, IsRefused}
+use Rattle.cut_dpop.specs.End.{IsCutEnd, IsCutRefused}
 use Rattle.cut_dpop.specs.Start.{turn_deliveries}
 use Rattle.cut_dpop.specs.declared.run.CutEnd.{CutEnd}
 use Rattle.cut_dpop.specs.declared.fault.CutFault.{CutFault}
@@ -120,7 +120,7 @@ refusal-answers file limit keeps (Total cells) (Err none) one whole gives is = t
 refusal-answers file limit keeps faults.NoMemory (Err none) one whole gives is = tt
 
 -- what a cut on the depth-first tree gives, as its end or by what refuses it
-pub given-by : (p : Dcop) (paths : List (List ℕ)) (limit : ℕ) (keeps : Bool) (result : Result CutEnd CutFault) → paths ≡ dfs p → IfOk result (IsCutEnd p paths limit keeps) → IfErr result (IsRefused p paths limit keeps)
+pub given-by : (p : Dcop) (paths : List (List ℕ)) (limit : ℕ) (keeps : Bool) (result : Result CutEnd CutFault) → paths ≡ dfs p → IfOk result (IsCutEnd p paths limit keeps) → IfErr result (IsCutRefused p paths limit keeps)
     → GivesCut p limit keeps result
 given-by p paths limit keeps (Ok end) same is refused = subst (λ (ps : List (List ℕ)). IsCutEnd p ps limit keeps end) same is
-given-by p paths limit keeps (Err fault) same is refused = subst (λ (ps : List (List ℕ)). IsRefused p ps limit keeps fault) same refused
+given-by p paths limit keeps (Err fault) same is refused = subst (λ (ps : List (List ℕ)). IsCutRefused p ps limit keeps fault) same refused

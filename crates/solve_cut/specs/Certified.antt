@@ -3,7 +3,7 @@ use Rattle.std.specs.Prelude.{◌≡◌, ℕ, Bool, true, false, List, Option, S
 use Rattle.pseudotree.specs.DepthFirst.{dfs}
 use Rattle.run_laws.specs.Turns.{turn_count}
 use Rattle.cut_dpop.specs.Certificate.{IsCertifiedEnd}
-use Rattle.cut_dpop.specs.Kept.{AreTurns}
+use Rattle.cut_dpop.specs.Kept.{AreCutTurns}
 use Rattle.cut_dpop.specs.declared.run.CutEnd.{CutEnd}
 use Rattle.problem_text.specs.File.{TextFile}
 use Rattle.certificate_text.specs.Fits.{FitsCut}
@@ -17,7 +17,7 @@ use Rattle.minimised_problem.specs.Holds.{HoldsCut}
 -- these are the tables of all turns of a cut of the problem solved for a file, they fit the file,
 -- and the report holds with them
 pub record AreTurnsFor (file : TextFile) (cut : List ℕ) (report : Report) (turns : List Turn) : Type 0 where
-  pub tables : AreTurns (problem_solved file) (dfs (problem_solved file)) cut (turn_count (problem_solved file) cut) turns
+  pub tables : AreCutTurns (problem_solved file) (dfs (problem_solved file)) cut (turn_count (problem_solved file) cut) turns
   pub fits : FitsCut file.problem.sizes cut turns
   pub holds : HoldsCut file report cut turns
 
@@ -34,7 +34,7 @@ certificate_if true cut turns = Some (Cut cut turns)
 -- the end of a cut of the problem solved for a file has the tables of all its turns, and they form
 -- a certificate
 pub record HasTurns (file : TextFile) (end : CutEnd) : Type 0 where
-  pub tables : AreTurns (problem_solved file) (dfs (problem_solved file)) end.cut (turn_count (problem_solved file) end.cut) end.tables
+  pub tables : AreCutTurns (problem_solved file) (dfs (problem_solved file)) end.cut (turn_count (problem_solved file) end.cut) end.tables
   pub certified : IsCertifiedEnd (problem_solved file) end
 
 -- the end of a cut has such tables if a certificate is requested

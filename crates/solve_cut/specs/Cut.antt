@@ -6,7 +6,7 @@ use Rattle.pseudotree.specs.DepthFirst.{dfs}
 use Rattle.run_laws.specs.CutSet.{IsCutSet}
 use Rattle.run_laws.specs.Kept.{IsCutAnswer}
 use Rattle.run_laws.specs.Turns.{turn_count}
-use Rattle.cut_dpop.specs.End.{IsCutEnd, IsRefused}
+use Rattle.cut_dpop.specs.End.{IsCutEnd, IsCutRefused}
 use Rattle.cut_dpop.specs.Refusal.{refusal}
 use Rattle.cut_dpop.specs.Start.{turn_deliveries}
 use Rattle.cut_dpop.specs.declared.run.CutEnd.{CutEnd}
@@ -86,7 +86,7 @@ pub record AnswersCut (d : Declared) (limit : ℕ) (keeps : Bool) (answer : Answ
 -- run out at any cut
 abbrev pub GivesCut : Dcop → ℕ → Bool → Result CutEnd CutFault → Type 0
 GivesCut p limit keeps (Ok end) = IsCutEnd p (dfs p) limit keeps end
-GivesCut p limit keeps (Err fault) = IsRefused p (dfs p) limit keeps fault
+GivesCut p limit keeps (Err fault) = IsCutRefused p (dfs p) limit keeps fault
 
 -- the end of a cut of the problem solved, as a result for the file's own problem: its values are an
 -- assignment whose cost is the best sum, and it has the tables of all turns if a certificate is

@@ -13,20 +13,20 @@ use Rattle.solve_report.specs.declared.answer.Answer.TheVariants as answers
 use Rattle.solve_methods.specs.Dpop.{wide_in, wide_answer}
 use Rattle.edit_session.specs.State.{SessionState, opened}
 use Rattle.edit_text.specs.Kinds.{number_of_edit}
-use Rattle.solve_edit.specs.Running.{Told, Refused, AreLinesTold}
+use Rattle.solve_edit.specs.Running.{EditsTold, Refused, AreLinesTold}
 
 -- the number of the line after a text that `before` lines precede
 abbrev pub line_behind : ℕ → List ℕ → ℕ
 line_behind before text = before + (1 + count_by (λ b. b == line_feed) text)
 
 -- the answer from the result of the lines: the optima, or only the first fault
-abbrev pub told_answer : Result Told Refused → Answer → Type 0
+abbrev pub told_answer : Result EditsTold Refused → Answer → Type 0
 told_answer (Ok told) answer = answer ≡ answers.Edits told.answers told.file
 told_answer (Err fault) answer = answer ≡ answers.EditText fault.line (number_of_edit fault.kind)
 
 -- the answer to the lines of a text in a session with this state; `before` lines precede the text
 pub record TellsLines (s : SessionState) (before : ℕ) (text : List ℕ) (answer : Answer) : Type 0 where
-  pub told : Result Told Refused
+  pub told : Result EditsTold Refused
   pub lines : AreLinesTold s (line_behind before text) (plain_lines (before + 1) text) told
   pub is : told_answer told answer
 

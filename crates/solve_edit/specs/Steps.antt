@@ -12,7 +12,7 @@ use Rattle.edit_text.specs.declared.line.EditLine.{EditLine}
 use Rattle.edit_text.specs.declared.line.EditLine.TheVariants as lines
 use Rattle.problem_text.specs.declared.line_end.LineEnd.{LineEnd}
 use Rattle.problem_text.specs.declared.line_end.LineEnd.TheVariants as ends
-use Rattle.solve_edit.specs.Running.{Told, Refused, refused, behind, ended, AreLinesTold}
+use Rattle.solve_edit.specs.Running.{EditsTold, Refused, refused, behind, ended, AreLinesTold}
 use Rattle.solve_edit.specs.declared.stop.Stop.{Stop}
 use Rattle.solve_edit.specs.declared.stop.Stop.TheVariants as stops
 use Rattle.solve_edit.specs.declared.playing.Played.{Played}
@@ -43,33 +43,33 @@ IsEditPlayed fault next (Err ends.NoMemory) after = Unit {0}
 IsEditPlayed fault next result after = ⊥
 
 -- the effect of a line in a session with this state, and the state after it
-abbrev pub IsPlayed : SessionState → EditLine → Result Played (LineEnd EditKind) → SessionState → Type 0
-IsPlayed s (lines.Set k cell cost) result after = IsEditPlayed (set_fault s.file.problem k cell cost) (edited s k (cells_set s.file.problem.tables k cell cost)) result after
-IsPlayed s (lines.Fill k cells) result after = IsEditPlayed (fill_fault s.file.problem k cells) (edited s k cells) result after
-IsPlayed s lines.Answer (Ok (played.Answer answer)) after = IsAnswerNow s answer × (after ≡ answered s)
-IsPlayed s lines.End (Ok played.End) after = after ≡ s
-IsPlayed s line (Err ends.NoMemory) after = Unit {0}
-IsPlayed s line result after = ⊥
+abbrev pub IsLinePlayed : SessionState → EditLine → Result Played (LineEnd EditKind) → SessionState → Type 0
+IsLinePlayed s (lines.Set k cell cost) result after = IsEditPlayed (set_fault s.file.problem k cell cost) (edited s k (cells_set s.file.problem.tables k cell cost)) result after
+IsLinePlayed s (lines.Fill k cells) result after = IsEditPlayed (fill_fault s.file.problem k cells) (edited s k cells) result after
+IsLinePlayed s lines.Answer (Ok (played.Answer answer)) after = IsAnswerNow s answer × (after ≡ answered s)
+IsLinePlayed s lines.End (Ok played.End) after = after ≡ s
+IsLinePlayed s line (Err ends.NoMemory) after = Unit {0}
+IsLinePlayed s line result after = ⊥
 
 -- a line leads a session from one state to another: the result of the later lines, after the optima
 -- that the line kept, is the result of all
-pub record GoesOn (l : Plain) (s after : SessionState) (old new : List Edited) : Type 0 where
+pub record LeadsSession (l : Plain) (s after : SessionState) (old new : List Edited) : Type 0 where
   pub part : List Edited
   pub kept : new ≡ old ++ part
-  pub goes : (last : ℕ) (ls : List Plain) (told : Result Told Refused) → AreLinesTold after last ls told → AreLinesTold s last (l ∷ ls) (behind part told)
+  pub goes : (last : ℕ) (ls : List Plain) (told : Result EditsTold Refused) → AreLinesTold after last ls told → AreLinesTold s last (l ∷ ls) (behind part told)
 
 -- the session ends at a line, and its state is unchanged
-pub record EndsAt (l : Plain) (s after : SessionState) (old new : List Edited) : Type 0 where
+pub record EndsAtLine (l : Plain) (s after : SessionState) (old new : List Edited) : Type 0 where
   pub kept : new ≡ old
   pub same : after ≡ s
   pub ends_so : (last : ℕ) (ls : List Plain) → AreLinesTold s last (l ∷ ls) (ended s ls)
 
 -- the effect of a line on a session and on the optima that are kept
-abbrev pub IsStep : Plain → SessionState → SessionState → List Edited → List Edited → Result Bool Stop → Type 0
-IsStep l s after old new (Ok false) = GoesOn l s after old new
-IsStep l s after old new (Ok true) = EndsAt l s after old new
-IsStep l s after old new (Err (stops.Refused line kind)) = (last : ℕ) (ls : List Plain) → AreLinesTold s last (l ∷ ls) (refused line kind)
-IsStep l s after old new (Err stops.NoMemory) = Unit {0}
+abbrev pub IsLineStep : Plain → SessionState → SessionState → List Edited → List Edited → Result Bool Stop → Type 0
+IsLineStep l s after old new (Ok false) = LeadsSession l s after old new
+IsLineStep l s after old new (Ok true) = EndsAtLine l s after old new
+IsLineStep l s after old new (Err (stops.Refused line kind)) = (last : ℕ) (ls : List Plain) → AreLinesTold s last (l ∷ ls) (refused line kind)
+IsLineStep l s after old new (Err stops.NoMemory) = Unit {0}
 
 -- the result of lines in a session
 abbrev pub IsRun : SessionState → ℕ → List Plain → Result (List Edited) Stop → SessionState → Type 0

@@ -1,6 +1,6 @@
 //! The effect of one line.
 
-ghost use Rattle.solve_edit.specs.Steps.{IsKindOf, IsPlayed};
+ghost use Rattle.solve_edit.specs.Steps.{IsKindOf, IsLinePlayed};
 
 use dpop_agent::Steps;
 use edit_session::{Session, SetFault};
@@ -25,7 +25,7 @@ pub(crate) fn play<L: Ledger>(
     line: EditLine,
     steps: &mut Steps<L>,
 ) -> Result<Played, LineEnd<EditKind>>
-    ensures { IsPlayed session.old.state line result session.new.state }
+    ensures { IsLinePlayed session.old.state line result session.new.state }
 {
     match line {
         EditLine::Set { table, cell, cost } => edited(session.set(table, cell, cost)),

@@ -5,7 +5,7 @@ ghost use Rattle.dcop_base.specs.Limits.{input_limit};
 ghost use Rattle.problem_text.specs.Lines.{words};
 ghost use Rattle.problem_text.specs.PlainLines.{plain_lines};
 ghost use Rattle.solve_edit.specs.Editing.{line_behind};
-ghost use Rattle.solve_edit.specs.Steps.{IsStep, IsRun};
+ghost use Rattle.solve_edit.specs.Steps.{IsLineStep, IsRun};
 
 use crate::playing::{Played, play};
 use crate::stop::Stop;
@@ -26,7 +26,7 @@ fn step<L: Ledger>(
     answers: &mut Vec<Edited>,
     steps: &mut Steps<L>,
 ) -> Result<bool, Stop>
-    ensures { IsStep (record { number = number; words = words text.now }) session.old.state
+    ensures { IsLineStep (record { number = number; words = words text.now }) session.old.state
         session.new.state answers.old.items answers.new.items result }
 {
     let line = match read_edit_line(alloc, text) {

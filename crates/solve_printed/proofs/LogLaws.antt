@@ -19,7 +19,7 @@ use Rattle.minimised_problem.specs.LogHolds.{agents_for}
 use Rattle.solve_report.specs.declared.answer.Answer.{Answer}
 use Rattle.solve_printed.specs.declared.reading.LogRead.{LogRead}
 use Rattle.solve_printed.specs.declared.reading.LogRead.TheVariants.{Log, Refused}
-use Rattle.solve_printed.specs.LogReads.{IsLogOf, IsLogRead}
+use Rattle.solve_printed.specs.LogReads.{IsPrintedLog, IsLogRead}
 use Rattle.solve_printed.specs.Replaying.{log_up_to, IsReplay, IsReplayOf, IsReadReplay, AnswersReplay}
 
 -- the events of a log that a report has, which fits its file
@@ -31,7 +31,7 @@ log-fits file report x log fits some is =
     (fits.error, certificate.1)
 
 -- a certificate that gives a log has it
-log-given : (before : ℕ) (text : List ℕ) (of error : ℕ) (log : List LogEvent) (certificate : Option Certificate) → IsLogOf before text of certificate (Log error log)
+log-given : (before : ℕ) (text : List ℕ) (of error : ℕ) (log : List LogEvent) (certificate : Option Certificate) → IsPrintedLog before text of certificate (Log error log)
     → (of ≡ error) × (certificate ≡ Some (certificates.Log log))
 log-given before text of error log (Some (certificates.Log own)) is =
     let error_same : error ≡ of = cc in
@@ -69,7 +69,7 @@ replay-read file before text after error log answer of whole given is =
     }
 
 -- a certificate that gives no log
-log-refused : (file : TextFile) (before : ℕ) (text : List ℕ) (after : Option ℕ) (error : ℕ) (certificate : Option Certificate) (answer : Answer) → IsLogOf before text error certificate (Refused answer)
+log-refused : (file : TextFile) (before : ℕ) (text : List ℕ) (after : Option ℕ) (error : ℕ) (certificate : Option Certificate) (answer : Answer) → IsPrintedLog before text error certificate (Refused answer)
     → IsReplayOf file before text after error certificate answer
 log-refused file before text after error (Some (certificates.Log log)) answer is = cc
 log-refused file before text after error (Some (certificates.Tables utils)) answer is = cc

@@ -17,14 +17,14 @@ use Rattle.solve_printed.specs.declared.reading.LogRead.TheVariants.{Log as Give
 
 -- the result for a report with this error and this certificate, whose text comes after `before`
 -- lines: its log, with the error; or the refusal of a report without a log
-abbrev pub IsLogOf : ℕ → List ℕ → ℕ → Option Certificate → LogRead → Type 0
-IsLogOf before text error (Some (Log log)) read = read ≡ Given error log
-IsLogOf before text error certificate read = read ≡ Refused (ReportText (before + certificate_line text) (number_of_report NoLog))
+abbrev pub IsPrintedLog : ℕ → List ℕ → ℕ → Option Certificate → LogRead → Type 0
+IsPrintedLog before text error (Some (Log log)) read = read ≡ Given error log
+IsPrintedLog before text error certificate read = read ≡ Refused (ReportText (before + certificate_line text) (number_of_report NoLog))
 
 -- the result for the text of a report, given what it is read as: that of the report, or the first
 -- fault of the text, whose line counts from the beginning of the input
 abbrev pub IsLogRead : ℕ → List ℕ → Result Report Fault → LogRead → Type 0
-IsLogRead before text (Ok report) read = IsLogOf before text report.error report.certificate read
+IsLogRead before text (Ok report) read = IsPrintedLog before text report.error report.certificate read
 IsLogRead before text (Err fault) read = read ≡ Refused (ReportText (before + fault.line) (number_of_report fault.kind))
 
 -- the error is at most amount_limit, and the events of the log fit `count` agents; or the answer

@@ -44,8 +44,8 @@ pub record TellsState (net : Network) (es : List Event) (events : ℕ) (agents :
 
 -- the event with this number, counted from 1, is the first of these that is not lawful, and this is
 -- its fault
-abbrev pub TellsFault : Network → List Event → ℕ → EventFault → Type 0
-TellsFault net es at fault = (place : ℕ) × (at ≡ place + 1) × FirstFault net es place fault
+abbrev pub TellsEventFault : Network → List Event → ℕ → EventFault → Type 0
+TellsEventFault net es at fault = (place : ℕ) × (at ≡ place + 1) × FirstFault net es place fault
 
 -- the answer that says why events are not a run, with these names; there is none if memory runs out
 abbrev pub IsFaultAnswer : List (List ℕ) → ReplayFault → Answer → Type 0
@@ -56,7 +56,7 @@ IsFaultAnswer names NoMemory answer = ⊥
 -- lead to, or the first of them that is not lawful
 abbrev pub IsReplay : TextFile → Network → List Event → Answer → Type 0
 IsReplay file net es (answers.Replay events agents names) = (names ≡ file.names) × TellsState net es events agents
-IsReplay file net es (answers.Verdict (No (Unlawful at fault)) names) = (names ≡ file.names) × TellsFault net es at fault
+IsReplay file net es (answers.Verdict (No (Unlawful at fault)) names) = (names ≡ file.names) × TellsEventFault net es at fault
 IsReplay file net es answer = ⊥
 
 -- the answer to a report with this error and this certificate, whose text comes after `before`

@@ -8,7 +8,7 @@ ghost use Rattle.problem_text.specs.declared.fault.ReportKind.TheVariants.{NoLog
 ghost use Rattle.certificate_text.specs.Fits.{Fits};
 ghost use Rattle.report_reader.specs.ReportReading.{report_read};
 ghost use Rattle.solve_printed.specs.CertificateLine.{certificate_line};
-ghost use Rattle.solve_printed.specs.LogReads.{IsLogOf, IsLogRead, IsPlayable};
+ghost use Rattle.solve_printed.specs.LogReads.{IsPrintedLog, IsLogRead, IsPlayable};
 
 use crate::certificate_line::certificate_line;
 use certificate_text::{Certificate, Report};
@@ -61,7 +61,7 @@ pub fn read_log(
 /// The log of a report that was read.
 fn log_of(report: Report, text: &[u8], before: u64) -> LogRead
     requires few { before + length text.now ≤ input_limit }
-    ensures read { IsLogOf before text.now report.error report.certificate result }
+    ensures read { IsPrintedLog before text.now report.error report.certificate result }
     ensures playable { (file : TextFile) → Fits report file →
         IsPlayable (length file.problem.sizes) result }
 {

@@ -47,7 +47,7 @@ use Rattle.answer_io.specs.Statuses.{status_of, status_of_ending}
 use Rattle.solve_methods.specs.Tree.{IsTreeAnswer}
 use Rattle.solve_words.specs.declared.command.Format.{Format}
 use Rattle.solve_words.specs.declared.command.Format.TheVariants.{Dcop as Own}
-use Rattle.answer_io.specs.InputTold.{Told, told_of}
+use Rattle.answer_io.specs.InputTold.{DeclaredInput, told_of}
 use Rattle.answer_io.specs.Inputs.{input_read}
 use Rattle.answer_io.specs.Fronts.{front_read, lines_in}
 use Rattle.solve_printed.specs.Checking.{IsReadAnswer}
@@ -102,7 +102,7 @@ module _ (words : List (List ℕ)) (command : Command) (nodes : ℕ) (asked : an
   }
 
   -- an answer about the links between them is one to the words, on an input with their problem
-  links_given : (input : Input) (task : FileTask) (told : Told) (answer : Answer) → TellsProblem (task_of command) (drill_of command) input task told → 1 < nodes → IsOfLinks task nodes told.declared answer → IsLinkAnswer words input answer
+  links_given : (input : Input) (task : FileTask) (told : DeclaredInput) (answer : Answer) → TellsProblem (task_of command) (drill_of command) input task told → 1 < nodes → IsOfLinks task nodes told.declared answer → IsLinkAnswer words input answer
   links_given input task told answer read many links = record {
     asks = asks_nodes many;
     task = task;
@@ -113,14 +113,14 @@ module _ (words : List (List ℕ)) (command : Command) (nodes : ℕ) (asked : an
 
   -- the answer to a task on a text, if the words ask for it
   module _ (format : Format) (task : FileTask) (bytes : List ℕ) (answer : Answer) (served : task_of command ≡ Some (File format task)) where
-    told_problem : (told : Told) → input_read format bytes ≡ Ok told → TellsProblem (task_of command) (drill_of command) (Whole bytes) task told
+    told_problem : (told : DeclaredInput) → input_read format bytes ≡ Ok told → TellsProblem (task_of command) (drill_of command) (Whole bytes) task told
     told_problem told read = subst (λ (t : Option Task). TellsProblem t (drill_of command) (Whole bytes) task told) (sym served) (refl, read)
 
-    told_given : (told : Told) → input_read format bytes ≡ Ok told → IsTextAnswer task (input_read format bytes) answer ⊎ ((1 < nodes) × IsOfLinks task nodes told.declared answer) → IsGiven words (Whole bytes) answer
+    told_given : (told : DeclaredInput) → input_read format bytes ≡ Ok told → IsTextAnswer task (input_read format bytes) answer ⊎ ((1 < nodes) × IsOfLinks task nodes told.declared answer) → IsGiven words (Whole bytes) answer
     told_given told read (inl is) = inl (IsAnswer-task words command (File format task) (Whole bytes) answer asked served is)
     told_given told read (inr links) = inr (links_given (Whole bytes) task told answer (told_problem told read) links.0 links.1)
 
-    read_given : (read : Result Told Answer) → input_read format bytes ≡ read → IsAnswerRead task nodes read (IsTextAnswer task (input_read format bytes)) answer → IsGiven words (Whole bytes) answer
+    read_given : (read : Result DeclaredInput Answer) → input_read format bytes ≡ read → IsAnswerRead task nodes read (IsTextAnswer task (input_read format bytes)) answer → IsGiven words (Whole bytes) answer
     read_given (Ok told) read is = told_given told read is
     read_given (Err refusal) read is = inl (IsAnswer-task words command (File format task) (Whole bytes) answer asked served is)
 
@@ -324,7 +324,7 @@ cut_sound file cut certified (Some fault) is = refusal_sound fault is
 cut_sound file cut certified None is = cc is.is
 
 -- an answer to what a text declares is no failed reading
-file-sound : (task : FileTask) (t : Told) → ¬ IsFileAnswer task t answers.Read
+file-sound : (task : FileTask) (t : DeclaredInput) → ¬ IsFileAnswer task t answers.Read
 file-sound tasks.Plain t is = is
 file-sound (tasks.Dpop certified) t is = dpop-sound is.file certified (wide_in (solved is.file.goal is.file.problem)) is.is
 file-sound (tasks.Adopt error budget certified) t is = is.is
@@ -334,7 +334,7 @@ file-sound (tasks.Cut limit certified) t is = cut_sound is.file is.cut certified
 file-sound tasks.Tree t is = is.is
 file-sound tasks.Upgrade t is = let s = upgraded-solved t.declared t.bar answers.Read is in cc
 
-text-sound : (task : FileTask) (read : Result Told Answer) → ¬ (read ≡ Err answers.Read) → ¬ IsTextAnswer task read answers.Read
+text-sound : (task : FileTask) (read : Result DeclaredInput Answer) → ¬ (read ≡ Err answers.Read) → ¬ IsTextAnswer task read answers.Read
 text-sound task (Ok t) told is = file-sound task t is
 text-sound task (Err refusal) told is = told (ap Err (sym is))
 
@@ -441,7 +441,7 @@ Rose-answered words before after answer done fault =
     (subst (λ (i : Input). IsReadFrom i before after) (given-sound words done.input answer done.belongs fault) done.read).0
 
 -- a broken input has no problem
-broken-untold : (task : Option Task) (drill : Option Drill) (done : FileTask) (told : Told) → ¬ TellsProblem task drill Broken done told
+broken-untold : (task : Option Task) (drill : Option Drill) (done : FileTask) (told : DeclaredInput) → ¬ TellsProblem task drill Broken done told
 broken-untold (Some (File format task)) drill done told is = is
 broken-untold (Some (Check format)) drill done told is = is
 broken-untold (Some (Replay format after)) drill done told is = is
@@ -469,7 +469,7 @@ cut-solved : (answer : Answer) → IsSolvedReport answer → status_of answer �
 cut-solved answer is = ap status_of is.is ∙ ap status_of_ending is.solved
 
 -- a task on what a text declares goes well if it is within its limits
-file-well : (format : Format) (task : FileTask) (t : Told) (answer : Answer) → IsWithinLimits task t.declared → IsFileAnswer task t answer → GoesWell (status_of answer) (File format task)
+file-well : (format : Format) (task : FileTask) (t : DeclaredInput) (answer : Answer) → IsWithinLimits task t.declared → IsFileAnswer task t answer → GoesWell (status_of answer) (File format task)
 file-well format tasks.Plain t (answers.Report report file) few is = solved-well (status_of_ending report.status) (File format tasks.Plain) (ap status_of_ending is.2.status)
 file-well format tasks.Plain t (answers.Many n) few is = absurd (omega (arith, few, is.0))
 file-well format tasks.Plain t (answers.ManyTurns n) few is = absurd is
@@ -503,7 +503,7 @@ file-well format tasks.Upgrade t answer few is = solved-well (status_of answer) 
 -- so does each task on a text for it
 task-well : (task : Task) (text : List ℕ) (answer : Answer) → IsTextFor task text → IsTaskAnswer task text answer → GoesWell (status_of answer) task
 task-well (File format task) text answer fits is =
-    file-well format task fits.told answer fits.within (subst (λ (r : Result Told Answer). IsTextAnswer task r answer) fits.read is)
+    file-well format task fits.told answer fits.within (subst (λ (r : Result DeclaredInput Answer). IsTextAnswer task r answer) fits.read is)
 task-well (Check format) text answer fits is = solved-well (status_of answer) (Check format) (printed_solved format text answer fits is)
 task-well (Replay format after) text answer fits is = solved-well (status_of answer) (Replay format after) (logged_solved format after text answer fits is)
 task-well Edit text answer fits is = solved-well (status_of answer) Edit (edits_solved text answer fits (subst (λ (r : Result Parts Answer). IsEditsAnswer text r answer) fits.read is))

@@ -57,7 +57,7 @@ use Rattle.cut_dpop.proofs.EndLaws.{few-turns}
 use Rattle.cut_dpop.specs.declared.fault.CutFault.{CutFault}
 use Rattle.cut_dpop.specs.declared.fault.CutFault.TheVariants as faults
 use Rattle.solve_cut.specs.Cut.{IsCutOf, refusal_of, IsCutReport, IsRefusalAnswer, IsCutAnswerBy}
-use Rattle.answer_io.specs.InputTold.{Told}
+use Rattle.answer_io.specs.InputTold.{DeclaredInput}
 use Rattle.solve_top.specs.declared.task.FileTask.{FileTask}
 use Rattle.solve_top.specs.declared.task.FileTask.TheVariants as tasks
 use Rattle.solve_top.specs.Answering.{IsUpgraded, IsFileAnswer}
@@ -290,7 +290,7 @@ upgraded_no_report d None report file is = is
 upgraded_no_report d (Some bar) report file is = is
 
 -- a report that any task prints with a certificate
-pub task_certified : (task : FileTask) (told : Told) (report : Report) (file : TextFile) → IsFileTaskInRange task → IsFileAnswer task told (answers.Report report file) → IsTrue (is_some report.certificate)
+pub task_certified : (task : FileTask) (told : DeclaredInput) (report : Report) (file : TextFile) → IsFileTaskInRange task → IsFileAnswer task told (answers.Report report file) → IsTrue (is_some report.certificate)
     → IsCertified told.declared file report
 task_certified tasks.Plain told report file range is some = absurd (some_none report.certificate is.2.certificate some)
 task_certified (tasks.Dpop certified) told report file range is some =

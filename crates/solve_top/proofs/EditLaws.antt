@@ -28,7 +28,7 @@ use Rattle.edit_text.specs.declared.kind.EditKind.{EditKind}
 use Rattle.edit_text.specs.declared.line.EditLine.{EditLine}
 use Rattle.edit_text.specs.declared.line.EditLine.TheVariants as said
 use Rattle.solve_edit.specs.Editing.{AnswersEdit, IsEditAnswer, IsEditAnswerBy, TellsLines, line_behind, told_answer}
-use Rattle.solve_edit.specs.Running.{Told as ToldLines, Refused, AreLinesTold, IsEditTold, IsLineTold, behind, ended}
+use Rattle.solve_edit.specs.Running.{EditsTold as ToldLines, Refused, AreLinesTold, IsEditTold, IsLineTold, behind, ended}
 use Rattle.solve_methods.specs.Dpop.{wide_in, wide_answer, IsAnswerBy, AnswersDpop}
 use Rattle.answer_io.specs.Fronts.{lines_in}
 use Rattle.solve_top.specs.Answering.{IsEditsAnswer}

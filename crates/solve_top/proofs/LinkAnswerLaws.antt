@@ -26,9 +26,9 @@ use Rattle.solve_methods.specs.Goal.{TellsRight}
 use Rattle.solve_top.specs.Answering.{IsFileAnswer, IsDrillAnswer}
 use Rattle.solve_top.specs.Drilling.{made_for}
 use Rattle.solve_top.specs.declared.drilling.Drill.{Drill}
-use Rattle.solve_top.specs.Nodes.{nodes_of, difference_answer, AskForNodes, IsAnswerIn, IsFaultNamed, IsOfLinks, TellsAnswer, TellsFault, TellsLinks}
+use Rattle.solve_top.specs.Nodes.{nodes_of, difference_answer, AskForNodes, IsAnswerIn, IsFaultNamed, IsOfLinks, TellsAnswer, TellsNodeFault, TellsLinks}
 use Rattle.solve_top.specs.Phases.{IsPhaseOf}
-use Rattle.solve_agents.specs.Wiring.{IsFaultOf}
+use Rattle.solve_agents.specs.Wiring.{IsNodesFaultOf}
 use Rattle.solve_top.specs.declared.task.FileTask.{FileTask}
 use Rattle.solve_top.proofs.AnswerLaws.{asks_nodes, drilled-status}
 use Rattle.solve_top.proofs.GivenLaws.{difference-status}
@@ -42,7 +42,7 @@ solved-sizes Max p = refl
 -- the answer to a fault of the agents of the problem solved
 module _ (file : TextFile) (task : FileTask) (nodes : ℕ) (honest : Type 0) (old new : ℕ) where
   -- the agents at the ends of a link have names
-  pub fault_named : (e : NodeFault) → length file.names ≡ length file.problem.sizes → IsFaultOf (problem_solved file) (IsPhaseOf task (problem_solved file)) nodes honest old new e → IsFaultNamed (length file.names) e
+  pub fault_named : (e : NodeFault) → length file.names ≡ length file.problem.sizes → IsNodesFaultOf (problem_solved file) (IsPhaseOf task (problem_solved file)) nodes honest old new e → IsFaultNamed (length file.names) e
   fault_named Failed named fails = tt
   fault_named (Differs d) named fails =
       let count : length (problem_solved file).sizes ≡ length file.names = solved-sizes file.goal file.problem ∙ sym named in
@@ -52,7 +52,7 @@ module _ (file : TextFile) (task : FileTask) (nodes : ℕ) (honest : Type 0) (ol
   fault_named no_memory named fails = tt
 
   -- it is an answer about the links
-  pub fault_belongs : (P : Answer → Type 0) (e : NodeFault) (r : Result Answer NoMemory) → IsProblem file.problem → IsFaultOf (problem_solved file) (IsPhaseOf task (problem_solved file)) nodes honest old new e → TellsFault file.names e r
+  pub fault_belongs : (P : Answer → Type 0) (e : NodeFault) (r : Result Answer NoMemory) → IsProblem file.problem → IsNodesFaultOf (problem_solved file) (IsPhaseOf task (problem_solved file)) nodes honest old new e → TellsNodeFault file.names e r
       → IfOk r (IsAnswerIn task nodes (declared_by file) P)
   fault_belongs P Failed r whole fails told = subst (λ (x : Result Answer NoMemory). IfOk x (IsAnswerIn task nodes (declared_by file) P)) (sym told) (inr (fails.0, inl refl))
   fault_belongs P (Differs d) (Ok answer) whole fails told = inr (
@@ -71,7 +71,7 @@ module _ (file : TextFile) (task : FileTask) (nodes : ℕ) (honest : Type 0) (ol
   fault_belongs P no_memory (Err refused) whole fails told = tt
 
   -- it says of them what the fault says
-  pub fault_tells : (e : NodeFault) (r : Result Answer NoMemory) → IsFaultOf (problem_solved file) (IsPhaseOf task (problem_solved file)) nodes honest old new e → TellsFault file.names e r → TellsLinks (1 < nodes) honest old new r
+  pub fault_tells : (e : NodeFault) (r : Result Answer NoMemory) → IsNodesFaultOf (problem_solved file) (IsPhaseOf task (problem_solved file)) nodes honest old new e → TellsNodeFault file.names e r → TellsLinks (1 < nodes) honest old new r
   fault_tells Failed r fails told = subst (λ (x : Result Answer NoMemory). TellsLinks (1 < nodes) honest old new x) (sym told) (record {
     failed = λ e. fails;
     differs = λ e. absurd (cc e);

@@ -26,7 +26,7 @@ use Rattle.answer_io.specs.declared.status.Status.{Status}
 use Rattle.answer_io.specs.declared.status.Status.TheVariants.{BadText, LinkFault, LinkDiffers}
 use Rattle.answer_io.specs.Statuses.{status_of, status_of_ending, status_of_verdict}
 use Rattle.answer_io.specs.Showing.{refused_by}
-use Rattle.answer_io.specs.InputTold.{Told, wcsp_refused_by}
+use Rattle.answer_io.specs.InputTold.{DeclaredInput, wcsp_refused_by}
 use Rattle.answer_io.specs.Fronts.{own_front, wcsp_front, front_read, lines_in}
 use Rattle.cut_dpop.specs.declared.fault.CutFault.{CutFault}
 use Rattle.cut_dpop.specs.declared.fault.CutFault.TheVariants as faults
@@ -34,7 +34,7 @@ use Rattle.solve_cut.specs.Cut.{refusal_of, IsRefusalAnswer, IsCutAnswerBy}
 use Rattle.solve_printed.specs.Checking.{IsReadAnswer}
 use Rattle.solve_printed.specs.Replaying.{log_up_to, IsReplay, IsReplayOf, IsReadReplay}
 use Rattle.solve_edit.specs.Editing.{IsEditAnswerBy, told_answer}
-use Rattle.solve_edit.specs.Running.{Told as ToldLines, Refused}
+use Rattle.solve_edit.specs.Running.{EditsTold as ToldLines, Refused}
 use Rattle.minimised_problem.specs.Goal.{problem_solved}
 use Rattle.minimised_problem.specs.LogHolds.{agents_for}
 use Rattle.solve_methods.specs.Dpop.{wide_in, wide_answer, IsAnswerBy}
@@ -111,7 +111,7 @@ cut-linkless file cut certified (Some fault) answer is = refusal-linkless fault 
 cut-linkless file cut certified None answer is = status-linkless answer _ (ap status_of is.is) (ending-linkless is.report.status)
 
 -- so is every answer to what a text declares
-pub file-linkless : (task : FileTask) (t : Told) (answer : Answer) → IsFileAnswer task t answer → TellsNoLink answer
+pub file-linkless : (task : FileTask) (t : DeclaredInput) (answer : Answer) → IsFileAnswer task t answer → TellsNoLink answer
 file-linkless tasks.Plain t answer is = no-link (IsFileAnswer tasks.Plain t) (λ no. no) (λ from to at sent taken names no. no) (λ round from_node to_node place sent taken no. no) answer is
 file-linkless (tasks.Dpop certified) t answer is = dpop-linkless is.file certified (wide_in (problem_solved is.file)) answer is.is
 file-linkless (tasks.Adopt error budget certified) t answer is =
@@ -187,7 +187,7 @@ module _ (many honest : Type 0) (old new : ℕ) (still : new ≡ old) where
   result-tells (Ok answer) none = linkless-tells answer none
   result-tells (Err refused) none = still
 
-  pub file-tells : (task : FileTask) (t : Told) (r : Result Answer NoMemory) → IfOk r (IsFileAnswer task t) → TellsLinks many honest old new r
+  pub file-tells : (task : FileTask) (t : DeclaredInput) (r : Result Answer NoMemory) → IfOk r (IsFileAnswer task t) → TellsLinks many honest old new r
   file-tells task t (Ok answer) is = linkless-tells answer (file-linkless task t answer is)
   file-tells task t (Err refused) is = still
 

@@ -26,7 +26,7 @@ use Rattle.solve_top.specs.Solving.{HasFitTree}
 use Rattle.solve_words.specs.declared.command.Command.{Command}
 use Rattle.solve_words.specs.declared.command.Format.{Format}
 use Rattle.solve_words.specs.declared.fault.WordFault.{WordFault}
-use Rattle.answer_io.specs.InputTold.{Told, told_of}
+use Rattle.answer_io.specs.InputTold.{DeclaredInput, told_of}
 use Rattle.answer_io.specs.Inputs.{input_read, declared_in}
 use Rattle.solve_top.proofs.AnswerLaws.{fit-none, IsAnswer-task, task-IsAnswer}
 use Rattle.solve_top.proofs.EditLaws.{same_as_dpop}
@@ -34,7 +34,7 @@ use Rattle.solve_top.proofs.GivenLaws.{solved-belongs}
 use Rattle.solve_top.proofs.SameLaws.{one_answer}
 
 module _ (optima : FirstOptimaOfTreesAreOne) (trees : DepthFirstTreesAreLinked) (certified : Bool) where
-  one_of_text : (read read' : Result Told Answer) (a b : Answer) → declared_in read ≡ declared_in read' → IsTextAnswer (tasks.Dpop certified) read a → IsTextAnswer (tasks.Dpop certified) read' b → a ≡ b
+  one_of_text : (read read' : Result DeclaredInput Answer) (a b : Answer) → declared_in read ≡ declared_in read' → IsTextAnswer (tasks.Dpop certified) read a → IsTextAnswer (tasks.Dpop certified) read' b → a ≡ b
   one_of_text (Ok t) (Ok t') a b same of_a of_b =
       let one : t.declared ≡ t'.declared = cc in
       one_answer optima trees certified t.declared a b of_a (subst (λ (d : Declared). AnswersDpop d certified b) (sym one) of_b)
@@ -84,8 +84,8 @@ auto_of_input format error budget certified Unread answer fit is = absurd fit
 auto_of_input format error budget certified Broken answer fit is = absurd fit
 auto_of_input format error budget certified TooLong answer fit is = absurd fit
 auto_of_input format error budget certified (Whole bytes) answer fit is =
-    subst (λ (read : Result Told Answer). IsTextAnswer (tasks.Dpop certified) read answer) (sym fit.1)
-    (fit-dpop fit.0.declared error budget certified answer fit.2 (subst (λ (read : Result Told Answer). IsTextAnswer (tasks.Auto error budget certified) read answer) fit.1 is))
+    subst (λ (read : Result DeclaredInput Answer). IsTextAnswer (tasks.Dpop certified) read answer) (sym fit.1)
+    (fit-dpop fit.0.declared error budget certified answer fit.2 (subst (λ (read : Result DeclaredInput Answer). IsTextAnswer (tasks.Auto error budget certified) read answer) fit.1 is))
 
 pub auto_answers_dpop : AutoAnswersAreThoseOfDpop
 auto_answers_dpop format certified words words' input answer asks asks' fit is =
@@ -128,5 +128,5 @@ drill_answers_one optima trees drill words words' input input' a b by asks asks'
 pub edit_answers_dpop : FirstOptimaOfTreesAreOne → DepthFirstTreesAreLinked → EditAnswersAreThoseOfDpop
 edit_answers_dpop optima trees format certified words bytes told report file s answer asks read declares whole is now =
     same_as_dpop optima trees s answer whole now told.declared certified report file declares
-    (subst (λ (r : Result Told Answer). IsTextAnswer (tasks.Dpop certified) r (answers.Report report file)) read
+    (subst (λ (r : Result DeclaredInput Answer). IsTextAnswer (tasks.Dpop certified) r (answers.Report report file)) read
     (task-IsAnswer words asks.command (File format (tasks.Dpop certified)) (Whole bytes) (answers.Report report file) asks.asked asks.served is))

@@ -6,7 +6,7 @@ use Rattle.answer_io.specs.declared.status.Status.{Status}
 use Rattle.answer_io.specs.declared.status.Status.TheVariants.{Solved, Spent, No, BadWords, BadText, TooWide, ReadFault, WriteFault, NoMemory, LinkFault, LinkDiffers, TooMany}
 use Rattle.answer_io.specs.Input.{SourceState}
 use Rattle.answer_io.specs.Output.{SinkState}
-use Rattle.answer_io.specs.Showing.{Shows, StaysUnless}
+use Rattle.answer_io.specs.Showing.{ShowsAnswer, StaysUnless}
 use Rattle.answer_io.specs.Statuses.{status_of}
 use Rattle.answer_io.proofs.ShowLaws as shows
 use Rattle.solve_words.specs.declared.command.Format.TheVariants.{Dcop as Own}
@@ -16,13 +16,13 @@ use Rattle.solve_top.specs.Solving.{GoesWell, Answered, Accepts, AsksDrill, Solv
 use Rattle.solve_top.proofs.AnswerLaws.{Rose-answered, stays-answered, well-answered, drill-well}
 
 pub read-so : (words : List (List ℕ)) (source source' : SourceState) (answer : Answer) → Answered words source source' answer
-    → (sink sink' : SinkState) (faults faults' : ℕ) (status : Status) → Shows answer sink sink' faults faults' status → status ≡ ReadFault
+    → (sink sink' : SinkState) (faults faults' : ℕ) (status : Status) → ShowsAnswer answer sink sink' faults faults' status → status ≡ ReadFault
     → Rose source.faults source'.faults
 read-so words source source' answer answered sink sink' faults faults' status shown fault =
     Rose-answered words source source' answer answered (shows.read-so answer sink sink' faults faults' status shown fault)
 
 pub source-stays : (words : List (List ℕ)) (source source' : SourceState) (answer : Answer) → Answered words source source' answer
-    → (sink sink' : SinkState) (faults faults' : ℕ) (status : Status) → Shows answer sink sink' faults faults' status
+    → (sink sink' : SinkState) (faults faults' : ℕ) (status : Status) → ShowsAnswer answer sink sink' faults faults' status
     → StaysUnless source.faults source'.faults ((status ≡ ReadFault) ⊎ (status ≡ WriteFault) ⊎ (status ≡ NoMemory))
 source-stays words source source' answer answered sink sink' faults faults' status shown =
     shows.source-stays source.faults source'.faults answer sink sink' faults faults' status shown (stays-answered words source source' answer answered)
@@ -51,7 +51,7 @@ module _ (words : List (List ℕ)) (honest : Type 0) (old new : ℕ) (answer : A
   alike : (AskForNodes words → honest) → status_of answer ≢ LinkDiffers
   alike so differs = let t = tells.differs differs in t.1 (so t.0)
 
-  module _ (sink sink' : SinkState) (faults faults' : ℕ) (status : Status) (shown : Shows answer sink sink' faults faults' status) where
+  module _ (sink sink' : SinkState) (faults faults' : ℕ) (status : Status) (shown : ShowsAnswer answer sink sink' faults faults' status) where
     pub solved-so : (source source' : SourceState) → Answered words source source' answer → status ≢ NoMemory → Solves words honest old new source source' sink sink' status
     solved-so source source' answered some = record {
       answer = answer;

@@ -21,7 +21,7 @@ use Rattle.solve_methods.specs.Drill.{drilled}
 use Rattle.solve_methods.specs.Goal.{TellsRight}
 use Rattle.solve_methods.specs.Dpop.{AnswersDpop}
 use Rattle.answer_io.specs.Input.{Input, Unread, Broken, TooLong, Whole}
-use Rattle.answer_io.specs.InputTold.{Told, told_of}
+use Rattle.answer_io.specs.InputTold.{DeclaredInput, told_of}
 use Rattle.answer_io.specs.Inputs.{input_read}
 use Rattle.answer_io.specs.Fronts.{front_read, lines_in}
 use Rattle.solve_words.specs.Kinds.{number_of_words}
@@ -44,7 +44,7 @@ IsUpgraded d bar answer = ⊥
 
 -- the answer to a task on a text that declares this; plain tries at most assignment_limit
 -- assignments
-abbrev pub IsFileAnswer : FileTask → Told → Answer → Type 0
+abbrev pub IsFileAnswer : FileTask → DeclaredInput → Answer → Type 0
 IsFileAnswer tasks.Plain t (answers.Report report file) =
     (product t.declared.sizes ≤ assignment_limit) × (declared_by file ≡ t.declared) × IsPlainReport file report × HasFirstOptimum file report
 IsFileAnswer tasks.Plain t (answers.Many assignments) = IsTooMany (product t.declared.sizes) assignments
@@ -57,7 +57,7 @@ IsFileAnswer tasks.Upgrade t answer = IsUpgraded t.declared t.bar answer
 IsFileAnswer task t answer = ⊥
 
 -- the answer to a task on an input that is read as this
-abbrev pub IsTextAnswer : FileTask → Result Told Answer → Answer → Type 0
+abbrev pub IsTextAnswer : FileTask → Result DeclaredInput Answer → Answer → Type 0
 IsTextAnswer task (Ok told) answer = IsFileAnswer task told answer
 IsTextAnswer task (Err refusal) answer = answer ≡ refusal
 

@@ -22,7 +22,7 @@ use Rattle.solve_report.specs.declared.answer.Answer.TheVariants as answers
 use Rattle.answer_io.specs.declared.status.Status.TheVariants.{LinkFault, LinkDiffers}
 use Rattle.answer_io.specs.Statuses.{status_of}
 use Rattle.answer_io.specs.Input.{Input, Unread, Whole}
-use Rattle.answer_io.specs.InputTold.{Told, told_of}
+use Rattle.answer_io.specs.InputTold.{DeclaredInput, told_of}
 use Rattle.answer_io.specs.Inputs.{input_read}
 use Rattle.solve_agents.specs.Differing.{HaveDiffered}
 use Rattle.solve_top.specs.Answering.{IsTextAnswer, IsTaskAnswer, IsDrillAnswer, IsUnreadAnswer}
@@ -57,11 +57,11 @@ difference_answer names (Bytes round from_node to_node place sent taken) = answe
 
 -- what reporting a fault of agents in nodes gives, given the names of their variables; that the
 -- links failed is reported without any memory
-abbrev pub TellsFault : List (List ℕ) → NodeFault → Result Answer NoMemory → Type 0
-TellsFault names Failed result = result ≡ Ok answers.Link
-TellsFault names (Differs d) (Ok answer) = answer ≡ difference_answer names d
-TellsFault names no_memory (Ok answer) = ⊥
-TellsFault names fault (Err refused) = Unit {0}
+abbrev pub TellsNodeFault : List (List ℕ) → NodeFault → Result Answer NoMemory → Type 0
+TellsNodeFault names Failed result = result ≡ Ok answers.Link
+TellsNodeFault names (Differs d) (Ok answer) = answer ≡ difference_answer names d
+TellsNodeFault names no_memory (Ok answer) = ⊥
+TellsNodeFault names fault (Err refused) = Unit {0}
 
 -- the link of a difference, if the fault reports one, is between agents with numbers below `count`
 abbrev pub IsFaultNamed : ℕ → NodeFault → Type 0
@@ -85,7 +85,7 @@ IsOfLinks task nodes d answer = (answer ≡ answers.Link) ⊎ TellsDifference ta
 
 -- what an input gives agents to do: the task and problem of an accepted text; or, for a drill, with
 -- nothing read, the task and the problem that is made
-abbrev pub TellsProblem : Option Task → Option Drilled → Input → FileTask → Told → Type 0
+abbrev pub TellsProblem : Option Task → Option Drilled → Input → FileTask → DeclaredInput → Type 0
 TellsProblem (Some (File format task)) drill (Whole bytes) done told = (done ≡ task) × (input_read format bytes ≡ Ok told)
 TellsProblem None (Some drill) Unread done told = (done ≡ drill.task) × (told ≡ told_of (made_for drill) None)
 TellsProblem task drill input done told = ⊥
@@ -94,7 +94,7 @@ TellsProblem task drill input done told = ⊥
 pub record IsLinkAnswer (words : List (List ℕ)) (input : Input) (answer : Answer) : Type 0 where
   pub asks : AskForNodes words
   pub task : FileTask
-  pub told : Told
+  pub told : DeclaredInput
   pub read : TellsProblem (task_of asks.command) (drill_of asks.command) input task told
   pub links : IsOfLinks task (nodes_of asks.command) told.declared answer
 
@@ -104,7 +104,7 @@ abbrev pub IsAnswerIn : FileTask → ℕ → Declared → (Answer → Type 0) �
 IsAnswerIn task nodes d belongs answer = belongs answer ⊎ ((1 < nodes) × IsOfLinks task nodes d answer)
 
 -- an answer to a task, by agents in this many nodes, on an input that is read as this
-abbrev pub IsAnswerRead : FileTask → ℕ → Result Told Answer → (Answer → Type 0) → Answer → Type 0
+abbrev pub IsAnswerRead : FileTask → ℕ → Result DeclaredInput Answer → (Answer → Type 0) → Answer → Type 0
 IsAnswerRead task nodes (Ok told) belongs answer = IsAnswerIn task nodes told.declared belongs answer
 IsAnswerRead task nodes (Err refusal) belongs answer = belongs answer
 

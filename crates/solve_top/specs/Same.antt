@@ -23,7 +23,7 @@ use Rattle.solve_top.specs.Served.{task_of}
 use Rattle.solve_top.specs.Drilling.{drill_of}
 use Rattle.solve_top.specs.declared.drilling.Drill.{Drill}
 use Rattle.solve_top.specs.Solving.{HasFitTree}
-use Rattle.answer_io.specs.InputTold.{Told}
+use Rattle.answer_io.specs.InputTold.{DeclaredInput}
 use Rattle.answer_io.specs.Inputs.{input_read, declared_in}
 
 -- these words ask for DPOP on a problem in this format, with or without a certificate
@@ -65,7 +65,7 @@ pub record AskForAuto (format : Format) (certified : Bool) (words : List (List �
 
 -- an input in this format is read as a problem whose tree is not too wide for DPOP
 abbrev pub HasFitProblem : Format → Input → Type 0
-HasFitProblem format (Whole bytes) = (told : Told) × (input_read format bytes ≡ Ok told) × HasFitTree told.declared
+HasFitProblem format (Whole bytes) = (told : DeclaredInput) × (input_read format bytes ≡ Ok told) × HasFitTree told.declared
 HasFitProblem format input = ⊥
 
 -- these words ask for DPOP, or for auto on an input with such a problem, with or without a
@@ -99,6 +99,6 @@ AutoAnswersAreThoseOfDpop = (format : Format) (certified : Bool) (words words' :
 -- an optimum of a session has the values and the cost that `solve --method dpop` reports for a text
 -- that declares the problem as edited so far, with or without a certificate
 abbrev pub EditAnswersAreThoseOfDpop : Type 0
-EditAnswersAreThoseOfDpop = (format : Format) (certified : Bool) (words : List (List ℕ)) (bytes : List ℕ) (told : Told) (report : Report) (file : TextFile) (s : SessionState) (answer : Edited)
+EditAnswersAreThoseOfDpop = (format : Format) (certified : Bool) (words : List (List ℕ)) (bytes : List ℕ) (told : DeclaredInput) (report : Report) (file : TextFile) (s : SessionState) (answer : Edited)
     → AskForDpop format certified words → input_read format bytes ≡ Ok told → told.declared ≡ declared_by s.file → IsProblem s.file.problem
     → IsAnswer words (Whole bytes) (Reports report file) → IsAnswerNow s answer → (report.values ≡ answer.values) × (report.cost ≡ answer.cost)

@@ -34,11 +34,11 @@ use Rattle.minimised_problem.specs.Goal.{solved}
 use Rattle.solve_methods.specs.Goal.{TellsRight}
 use Rattle.answer_io.specs.Input.{Input, SourceState, IsReadFrom}
 use Rattle.answer_io.specs.Output.{SinkState}
-use Rattle.answer_io.specs.Showing.{IsShown, IsCut}
+use Rattle.answer_io.specs.Showing.{IsWholeShown, IsCutShort}
 use Rattle.solve_top.specs.Served.{task_of, IsFileTaskInRange}
 use Rattle.solve_top.specs.Drilling.{drill_of, made_for}
 use Rattle.solve_top.specs.declared.drilling.Drill.{Drill}
-use Rattle.answer_io.specs.InputTold.{Told}
+use Rattle.answer_io.specs.InputTold.{DeclaredInput}
 use Rattle.answer_io.specs.Inputs.{input_read}
 use Rattle.answer_io.specs.Fronts.{front_read, lines_in}
 
@@ -57,7 +57,7 @@ pub record Solves (words : List (List ℕ)) (honest : Type 0) (old new : ℕ) (s
   pub answer : Answer
   pub answered : Answered words source source' answer
   pub links : TellsAnswer (AskForNodes words) honest old new answer
-  pub shown : IsShown answer sink sink' status ⊎ IsCut answer sink sink' status
+  pub shown : IsWholeShown answer sink sink' status ⊎ IsCutShort answer sink sink' status
 
 -- a text that declares this is a file, and the depth-first tree of its problem solved is narrow and
 -- light, so that nothing is too wide
@@ -80,7 +80,7 @@ IsWithinLimits tasks.Upgrade d = Unit {0}
 
 -- a text in this format is read whole as a problem within the limits of a task
 pub record IsProblemFor (format : Format) (task : FileTask) (text : List ℕ) : Type 0 where
-  pub told : Told
+  pub told : DeclaredInput
   pub read : input_read format text ≡ Ok told
   pub within : IsWithinLimits task told.declared
 

@@ -3,7 +3,7 @@
 ghost use Rattle.std.specs.Prelude.{◌≡◌, ◌<◌, length, IfOk};
 ghost use Rattle.solve_report.specs.AnswerText.{HasText};
 ghost use Rattle.solve_methods.specs.Goal.{TellsRight};
-ghost use Rattle.solve_top.specs.Nodes.{code_in, difference_answer, IsFaultNamed, TellsFault};
+ghost use Rattle.solve_top.specs.Nodes.{code_in, difference_answer, IsFaultNamed, TellsNodeFault};
 
 use dcop_base::{Bytes, NoMemory};
 use message_code::encode;
@@ -21,7 +21,7 @@ use tcp_links::{Difference, NodeFault};
 /// the links failed.
 pub(crate) fn fault_told(alloc: Global, names: Names, fault: NodeFault) -> Result<Answer, NoMemory>
     requires named { IsFaultNamed (length names) fault }
-    ensures told { TellsFault names fault result }
+    ensures told { TellsNodeFault names fault result }
     ensures right { IfOk result TellsRight }
     ensures text { IfOk result HasText }
 {

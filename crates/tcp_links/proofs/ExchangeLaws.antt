@@ -28,22 +28,22 @@ use Rattle.agent_cells.specs.declared.cell.Cell.{Cell}
 use Rattle.agent_cells.specs.Settled.{TailJoins, HeadJoins}
 use Rattle.agent_cells.specs.State.{state_of, tails_in, heads_in, IsCell}
 use Rattle.agent_cells.proofs.CellLaws.{written}
-use Rattle.agent_workers.specs.Joined.{states_of, EachIs, EachBecomes, IsJoined}
+use Rattle.agent_workers.specs.Joined.{states_of, EachIs, EachBecomes, AreCellsJoined}
 use Rattle.agent_workers.specs.Settled.{StaysQuiet}
 use Rattle.agent_workers.proofs.ListLaws.{map_back, each_are, one_at}
 use Rattle.agent_workers.proofs.JoinLaws.{stood, quiet_same, joined_still, each_stays_then}
 use Rattle.node_exchange.specs.Passings.{Passing, SamePassing, AreAcross, NothingCame, AllCame, emptied as emptied_of}
 use Rattle.node_exchange.specs.declared.fault.PassFault.{PassFault}
 use Rattle.node_exchange.specs.declared.fault.PassFault.TheVariants.{Failed, Bytes, NoMemory}
-use Rattle.node_exchange.specs.Faults.{IsByteBetween, IsByteFault, IsNoDifference as passes_no_difference}
+use Rattle.node_exchange.specs.Faults.{IsByteBetween, IsByteFault, IsOtherFault as passes_no_difference}
 use Rattle.tcp_links.specs.declared.plan.InnerEnds.{InnerEnds}
 use Rattle.tcp_links.specs.declared.plan.NodePlan.{NodePlan}
 use Rattle.tcp_links.specs.Plans.{AreOrdered, IsBetween, pair_count, IsPlan}
 use Rattle.tcp_links.specs.Drains.{HasDrained}
 use Rattle.tcp_links.specs.Feeds.{AllWaits}
-use Rattle.tcp_links.specs.Kept.{IsKept}
-use Rattle.tcp_links.specs.Faults.{node_fault, IsNoDifference}
-use Rattle.tcp_links.specs.Woven.{IsPassingOf, IsIdle, AreIdle, AreLinksOf, AreEmptied, IsWoven, AreWoven, CanDrainAll, CanFeed, CanFeedAll, AreStill, SentWasDrained, FedWasTaken, SentIsDrained, FedIsTaken, HaveCaughtUp, HasDrainedLink, HaveDrained, HasFedLink, HaveFed}
+use Rattle.tcp_links.specs.Kept.{IsLinkKept}
+use Rattle.tcp_links.specs.Faults.{node_fault, IsOtherFault}
+use Rattle.tcp_links.specs.Woven.{IsPassingOf, IsLinkIdle, AreLinksIdle, AreLinksOf, AreEmptied, IsWoven, AreWoven, CanDrainAll, CanFeed, CanFeedAll, AreStill, SentWasDrained, FedWasTaken, SentIsDrained, FedIsTaken, HaveCaughtUp, HasDrainedLink, HaveDrained, HasFedLink, HaveFed}
 use Rattle.tcp_links.specs.Over.{IsDrainedOf, HasExchanged, IsExchangeFault}
 use Rattle.tcp_links.proofs.OrderLaws.{ordered_passed}
 use Rattle.tcp_links.proofs.DrainLaws.{tail_still}
@@ -95,7 +95,7 @@ held_keeps : (w : Wire) (ds es : List (ℕ × Message)) → es ≡ ds → HasHel
 held_keeps w ds es same held = All-append IsSame w.passages (passage_of ds es) held (same_kept ds es same)
 
 -- a fault of passing as one of the exchange
-pub no_difference : (round : ℕ) (f : PassFault) → passes_no_difference f → IsNoDifference (node_fault round f)
+pub no_difference : (round : ℕ) (f : PassFault) → passes_no_difference f → IsOtherFault (node_fault round f)
 no_difference round Failed h = tt
 no_difference round (Bytes from_node to_node place sent taken) h = absurd h
 no_difference round NoMemory h = tt
@@ -112,8 +112,8 @@ pub long_written : {A : Type 0} (n : ℕ) (xs ys zs : List A) → n ≡ length x
 long_written n xs ys zs len size same = len ∙ ap length (sym same) ∙ sym size ∙ ap length (sym (written n xs ys zs len size same))
 
 -- what is so of links without anything passed is so of the same lists
-pub idle_slices : (node : ℕ → ℕ) (ws ks : List Wire) (ps qs : List Passing) → ks ≡ ws → qs ≡ ps → AreIdle node ws ps → AreIdle node ks qs
-idle_slices node ws ks ps qs k q h = subst (λ (us : List Wire). AreIdle node us qs) (sym k) (subst (λ (us : List Passing). AreIdle node ws us) (sym q) h)
+pub idle_slices : (node : ℕ → ℕ) (ws ks : List Wire) (ps qs : List Passing) → ks ≡ ws → qs ≡ ps → AreLinksIdle node ws ps → AreLinksIdle node ks qs
+idle_slices node ws ks ps qs k q h = subst (λ (us : List Wire). AreLinksIdle node us qs) (sym k) (subst (λ (us : List Passing). AreLinksIdle node ws us) (sym q) h)
 
 pub links_slices : (ws ks : List Wire) (ps qs : List Passing) → ks ≡ ws → qs ≡ ps → AreLinksOf ws ps → AreLinksOf ks qs
 links_slices ws ks ps qs k q h = subst (λ (us : List Wire). AreLinksOf us qs) (sym k) (subst (λ (us : List Passing). AreLinksOf ws us) (sym q) h)
@@ -301,7 +301,7 @@ module _ {X : Type 0} {F : X → Type 0} (M : DynBox X Global F → View) where
         came_is : slice_get qs k ≡ Some came
         taker_is : slice_get last wire.receiver ≡ Some taker
         link : HasFedLink M taker wire v on.new ends came
-        kept : IsKept v ends
+        kept : IsLinkKept v ends
         sender : v.sender ≡ wire.sender
         receiver : v.receiver ≡ wire.receiver
 
@@ -335,7 +335,7 @@ module _ {X : Type 0} {F : X → Type 0} (M : DynBox X Global F → View) where
             came_is = came.1;
             taker_is = taker.1;
             link = link;
-            kept = subst (λ (u : Wire). IsKept u ends.0) (sym link.kept) (kept_on w.0 on.old ends.0 came.0.drained came.0.arrived on.was.kept more sent);
+            kept = subst (λ (u : Wire). IsLinkKept u ends.0) (sym link.kept) (kept_on w.0 on.old ends.0 came.0.drained came.0.arrived on.was.kept more sent);
             sender = ap (λ (u : Wire). u.sender) link.kept;
             receiver = ap (λ (u : Wire). u.receiver) link.kept;
           }
@@ -394,7 +394,7 @@ module _ {X : Type 0} {F : X → Type 0} (M : DynBox X Global F → View) where
       }
 
       -- and its links hold nothing any more
-      pub idle_on : (rs : List Passing) → AreEmptied (length ws) qs rs → AreIdle (home nodes agents) vs rs
+      pub idle_on : (rs : List Passing) → AreEmptied (length ws) qs rs → AreLinksIdle (home nodes agents) vs rs
       idle_on rs emptied = record {
         size = emptied.size ∙ sym (each_long SamePassing ps qs same) ∙ drained.counted ∙ sym fed.wires;
         each = λ k v r e f.
@@ -404,12 +404,12 @@ module _ {X : Type 0} {F : X → Type 0} (M : DynBox X Global F → View) where
             let came = each_on SamePassing ps qs same k l.on.passing l.on.passing_is in
             let one : came.0 ≡ l.came = one_at qs k came.0 l.came came.1 l.came_is in
             let led = (drained.passing k l.wire l.on.passing l.wire_is l.on.passing_is).0 in
-            let now : IsIdle (home nodes agents) l.wire (emptied_of came.0) = record {
+            let now : IsLinkIdle (home nodes agents) l.wire (emptied_of came.0) = record {
               link = record { from = came.2.from ∙ led.from; to = came.2.to ∙ led.to; from_node = came.2.from_node ∙ led.from_node; to_node = came.2.to_node ∙ led.to_node };
               drained = refl;
               arrived = refl;
             } in
-            let on : IsIdle (home nodes agents) l.wire r = subst (λ (p : Passing). IsIdle (home nodes agents) l.wire p) (sym is) (subst (λ (p : Passing). IsIdle (home nodes agents) l.wire (emptied_of p)) one now) in
+            let on : IsLinkIdle (home nodes agents) l.wire r = subst (λ (p : Passing). IsLinkIdle (home nodes agents) l.wire p) (sym is) (subst (λ (p : Passing). IsLinkIdle (home nodes agents) l.wire (emptied_of p)) one now) in
             record {
               link = record {
                 from = on.link.from ∙ sym l.sender;
@@ -465,7 +465,7 @@ module _ {X : Type 0} {F : X → Type 0} (M : DynBox X Global F → View) where
           let x = woven_on.every j i c.0 c.1 (subst (λ (s : CellState). Contains (peers s.sent) i) (sym c.2) peer) far in
           none x.0 x.1 x.2 x.4 x.3
 
-      say_nothing : IsJoined M nodes last → SayNothing (home nodes agents) vs (states_of M last)
+      say_nothing : AreCellsJoined M nodes last → SayNothing (home nodes agents) vs (states_of M last)
       say_nothing joined i j to from at_to at_from far none =
           let back : home nodes agents j ≢ home nodes agents i = λ near. far (sym near) in
           let a = map_back (state_of M) last i to at_to in
@@ -484,7 +484,7 @@ module _ {X : Type 0} {F : X → Type 0} (M : DynBox X Global F → View) where
             ],
           )
 
-      pub exchange_on : IsJoined M nodes cells → IsExchange (home nodes agents) ws vs (states_of M cells) (states_of M last)
+      pub exchange_on : AreCellsJoined M nodes cells → IsExchange (home nodes agents) ws vs (states_of M cells) (states_of M last)
       exchange_on joined = record {
         passed = each_from HasPassed ws vs fed.wires (λ k w v e f.
             let l = fed_at k v f in
@@ -501,7 +501,7 @@ module _ {X : Type 0} {F : X → Type 0} (M : DynBox X Global F → View) where
 
   -- a plan after an exchange
   pub has_exchanged : {W : Type 0} (p q : NodePlan W) (cells last : List (Cell X F)) (vs : List Wire) (fs : List InnerEnds) (rs : List Passing) → IsPlan p → q.agents ≡ p.agents → q.nodes ≡ p.nodes → length q.wires.items ≡ length p.wires.items
-      → q.kept.items ≡ vs → q.ends.items ≡ fs → q.passings.items ≡ rs → AreIdle (home p.nodes p.agents) vs rs → HaveCaughtUp M q.seen.items vs fs last
+      → q.kept.items ≡ vs → q.ends.items ≡ fs → q.passings.items ≡ rs → AreLinksIdle (home p.nodes p.agents) vs rs → HaveCaughtUp M q.seen.items vs fs last
       → AreWoven M p.nodes p.agents vs fs last → IsExchange (home p.nodes p.agents) p.kept.items vs (states_of M cells) (states_of M last) → HasExchanged M p cells q last
   has_exchanged p q cells last vs fs rs plan agents nodes wires kept ends passings idle told woven exchange =
       let own : AreWoven M q.nodes q.agents vs fs last =
@@ -510,7 +510,7 @@ module _ {X : Type 0} {F : X → Type 0} (M : DynBox X Global F → View) where
       subst (λ (ws : List Wire). AreWoven M q.nodes q.agents ws q.ends.items last) (sym kept) (subst (λ (es : List InnerEnds). AreWoven M q.nodes q.agents vs es last) (sym ends) own) in
       let caught : HaveCaughtUp M q.seen.items q.kept.items q.ends.items last =
       subst (λ (ws : List Wire). HaveCaughtUp M q.seen.items ws q.ends.items last) (sym kept) (subst (λ (es : List InnerEnds). HaveCaughtUp M q.seen.items vs es last) (sym ends) told) in
-      let none : AreIdle (home q.nodes q.agents) vs rs = subst (λ (n : ℕ). AreIdle (home n q.agents) vs rs) (sym nodes) (subst (λ (n : ℕ). AreIdle (home p.nodes n) vs rs) (sym agents) idle) in
+      let none : AreLinksIdle (home q.nodes q.agents) vs rs = subst (λ (n : ℕ). AreLinksIdle (home n q.agents) vs rs) (sym nodes) (subst (λ (n : ℕ). AreLinksIdle (home p.nodes n) vs rs) (sym agents) idle) in
       record {
         over = record {
           plan = record {

@@ -12,7 +12,7 @@ use Rattle.link_records.specs.Keeping.{passage_of, keeps}
 use Rattle.tcp_links.specs.declared.plan.InnerEnds.{InnerEnds}
 use Rattle.tcp_links.specs.Drains.{HasDrained}
 use Rattle.tcp_links.specs.Feeds.{AllWaits}
-use Rattle.tcp_links.specs.Kept.{IsKept}
+use Rattle.tcp_links.specs.Kept.{IsLinkKept}
 
 kept_drained : (ds es : List (ℕ × Message)) → flat_map (λ (p : Passage). p.drained) (passage_of ds es) ≡ ds
 kept_drained [] [] = refl
@@ -25,7 +25,7 @@ kept_arrived [] (a ∷ es) = append-nil (a ∷ es)
 kept_arrived (d ∷ ds) es = append-nil es
 
 -- a link stays kept where what was drained and what was fed is kept
-pub kept_on : (w : Wire) (before after : InnerEnds) (ds es : List (ℕ × Message)) → IsKept w before → HasDrained before.drain [] after.drain ds → sent_on after.feed ≡ sent_on before.feed ++ es → IsKept (keeps w ds es) after
+pub kept_on : (w : Wire) (before after : InnerEnds) (ds es : List (ℕ × Message)) → IsLinkKept w before → HasDrained before.drain [] after.drain ds → sent_on after.feed ≡ sent_on before.feed ++ es → IsLinkKept (keeps w ds es) after
 kept_on w before after ds es k drained fed = record {
   drained =
       flat_map-append (λ (p : Passage). p.drained) w.passages (passage_of ds es)
@@ -38,7 +38,7 @@ kept_on w before after ds es k drained fed = record {
 }
 
 -- then it is exchanged
-pub link_exchanged : (w : Wire) (ends : InnerEnds) (to from : CellState) → IsKept w ends → taken_from ends.drain ≡ lane w.receiver from.sent → AllWaits to w.sender ends.feed → IsLinkExchanged w to from
+pub link_exchanged : (w : Wire) (ends : InnerEnds) (to from : CellState) → IsLinkKept w ends → taken_from ends.drain ≡ lane w.receiver from.sent → AllWaits to w.sender ends.feed → IsLinkExchanged w to from
 link_exchanged w ends to from k all waits = record {
   drained = k.drained ∙ all;
   waiting = waits.waiting;

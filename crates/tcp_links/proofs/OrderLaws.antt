@@ -6,7 +6,7 @@ use Rattle.std.proofs.lemmas.Option.{same_Some}
 use Rattle.std.proofs.lemmas.List.Elements.{All-append, All-cons, All-take, All-drop}
 use Rattle.worker_laws.proofs.EachLaws.{each_back}
 use Rattle.worker_laws.specs.Wires.{Wire, AreApart, HasPassed, ArePassedOn}
-use Rattle.link_records.specs.Differences.{ComesBefore}
+use Rattle.link_records.specs.Differences.{IsLowerLink}
 use Rattle.tcp_links.specs.Plans.{AreOrdered, BelongsAt, fresh_link}
 
 -- what stands in a list with one element more at a place
@@ -26,7 +26,7 @@ insert_back (x ∷ xs) (suc i) y (suc k) b le e = elim (insert_back xs i y k b (
 pub all_insert : {A : Type 0} (P : A → Type 0) (xs : List A) (i : ℕ) (y : A) → All P xs → P y → All P (insert xs i y)
 all_insert P xs i y all own = All-append P (take i xs) (y ∷ drop i xs) (All-take P i xs all) (All-cons P y (drop i xs) own (All-drop P i xs all))
 
-not_before : (v w : Wire) → ComesBefore v w → v.receiver ≡ w.receiver → v.sender ≡ w.sender → ⊥
+not_before : (v w : Wire) → IsLowerLink v w → v.receiver ≡ w.receiver → v.sender ≡ w.sender → ⊥
 not_before v w b r s = elim b [
   | inl low ↦ omega (arith, low, s)
   | inr same ↦ let low = same.1 in omega (arith, low, r)
@@ -46,13 +46,13 @@ ordered_insert ws from to place up at k l v w e f lt =
     elim (insert_back ws place n k v at.inside e) [
       | inl low ↦ elim (insert_back ws place n l w at.inside f) [
         | inl both ↦ up k l v w low.1 both.1 lt
-        | inr (inl here) ↦ subst (λ (x : Wire). ComesBefore v x) (sym here.1) (at.below k v low.1 low.0)
+        | inr (inl here) ↦ subst (λ (x : Wire). IsLowerLink v x) (sym here.1) (at.below k v low.1 low.0)
         | inr (inr high) ↦ let a = low.0 in let b = high.2 in up k high.0 v w low.1 high.3 (omega (arith, a, b))
       ]
       | inr (inl here) ↦ let is = here.0 in elim (insert_back ws place n l w at.inside f) [
         | inl low ↦ let a = low.0 in absurd (omega (arith, a, is, lt))
         | inr (inl same) ↦ let a = same.0 in absurd (omega (arith, a, is, lt))
-        | inr (inr high) ↦ subst (λ (x : Wire). ComesBefore x w) (sym here.1) (at.above high.0 w high.3 high.2)
+        | inr (inr high) ↦ subst (λ (x : Wire). IsLowerLink x w) (sym here.1) (at.above high.0 w high.3 high.2)
       ]
       | inr (inr high) ↦ let is = high.1 in let past = high.2 in elim (insert_back ws place n l w at.inside f) [
         | inl low ↦ let a = low.0 in absurd (omega (arith, a, is, past, lt))

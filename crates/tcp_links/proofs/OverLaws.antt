@@ -32,7 +32,7 @@ use Rattle.worker_laws.proofs.RoundLaws.{node_rounds_push}
 use Rattle.agent_cells.specs.declared.cell.Cell.{Cell}
 use Rattle.agent_cells.specs.declared.fault.VisitFault.TheVariants.{StampEnd}
 use Rattle.agent_cells.specs.State.{state_of, fault_in, tails_in, heads_in}
-use Rattle.agent_workers.specs.Joined.{states_of, EachIs, EachBecomes, IsSameCell, IsJoined}
+use Rattle.agent_workers.specs.Joined.{states_of, EachIs, EachBecomes, IsSameCell, AreCellsJoined}
 use Rattle.agent_workers.specs.Settled.{StaysQuiet}
 use Rattle.agent_workers.specs.Turns.{sprint_limit, SomeFailed}
 use Rattle.agent_workers.specs.Broken.{StandsOrEnds, AreBrokenOff}
@@ -45,8 +45,8 @@ use Rattle.tcp_links.specs.declared.fault.NodeFault.TheVariants.{Failed, Differs
 use Rattle.tcp_links.specs.declared.plan.InnerEnds.{InnerEnds}
 use Rattle.tcp_links.specs.declared.plan.NodePlan.{NodePlan}
 use Rattle.tcp_links.specs.Faults.{HasNodeCause}
-use Rattle.tcp_links.specs.Woven.{AreIdle, SentWasDrained, FedWasTaken, HaveCaughtUp, AreWoven}
-use Rattle.tcp_links.specs.Over.{IsDrainedOf, AreReady, IsPlanOver, HasExchanged, HasPassedOther, IsExchangeFault, ArePlayedSo, IsIdleOver, ArePlayedOutOver, HasBrokenOver, HasRoundOver, HasBrokenRound, ArePlayedTo}
+use Rattle.tcp_links.specs.Woven.{AreLinksIdle, SentWasDrained, FedWasTaken, HaveCaughtUp, AreWoven}
+use Rattle.tcp_links.specs.Over.{IsDrainedOf, AreReadyToExchange, IsPlanOver, HasExchanged, HasPassedOther, IsExchangeFault, ArePlayedSo, IsIdleOver, ArePlayedOutOver, HasBrokenOver, HasRoundOver, HasBrokenRound, ArePlayedTo}
 use Rattle.node_exchange.specs.Faults.{IsByteBetween}
 use Rattle.tcp_links.specs.Ends.{AreThere, HasOtherByte, IsFaultOver}
 use Rattle.tcp_links.proofs.DrainLaws.{tail_still, head_none}
@@ -189,7 +189,7 @@ module _ {X : Type 0} {F : X → Type 0} (M : DynBox X Global F → View) where
   pub fine_quiet : (before after : List (Cell X F)) → EachBecomes (StaysQuiet M) before after → EachIs (λ c. fault_in c ≡ None) before → EachIs (λ c. fault_in c ≡ None) after
   fine_quiet before after q fine = record { each = λ i b is. let a = stood M (StaysQuiet M) before after q i b is in a.2.fault ∙ fine.each i a.0 a.1 }
 
-  pub joined_quiet : (nodes : ℕ) (before after : List (Cell X F)) → IsJoined M nodes before → EachBecomes (StaysQuiet M) before after → IsJoined M nodes after
+  pub joined_quiet : (nodes : ℕ) (before after : List (Cell X F)) → AreCellsJoined M nodes before → EachBecomes (StaysQuiet M) before after → AreCellsJoined M nodes after
   joined_quiet nodes before after j q = joined_still M nodes before after j (quiet_same M before after q)
 
   only_taken : (s : CellState) (c : Cell X F) → StandsOrEnds M s c → HasOnlyTaken s (state_of M c)
@@ -228,14 +228,14 @@ module _ {X : Type 0} {F : X → Type 0} (M : DynBox X Global F → View) where
         (subst (λ (n : ℕ). AreWoven M q.nodes n r.kept.items r.ends.items cells) (sym agents)
         (subst (λ (ws : List Wire). AreWoven M q.nodes q.agents ws r.ends.items cells) (sym kept) (subst (λ (es : List InnerEnds). AreWoven M q.nodes q.agents q.kept.items es cells) (sym ends) w)))
 
-    idle_as : (q r : NodePlan W) → r.kept.items ≡ q.kept.items → r.passings.items ≡ q.passings.items → r.agents ≡ q.agents → r.nodes ≡ q.nodes → AreIdle (home q.nodes q.agents) q.kept.items q.passings.items
-        → AreIdle (home r.nodes r.agents) r.kept.items r.passings.items
+    idle_as : (q r : NodePlan W) → r.kept.items ≡ q.kept.items → r.passings.items ≡ q.passings.items → r.agents ≡ q.agents → r.nodes ≡ q.nodes → AreLinksIdle (home q.nodes q.agents) q.kept.items q.passings.items
+        → AreLinksIdle (home r.nodes r.agents) r.kept.items r.passings.items
     idle_as q r kept passings agents nodes i =
-        subst (λ (n : ℕ). AreIdle (home n r.agents) r.kept.items r.passings.items) (sym nodes)
-        (subst (λ (n : ℕ). AreIdle (home q.nodes n) r.kept.items r.passings.items) (sym agents) (idle_slices (home q.nodes q.agents) q.kept.items r.kept.items q.passings.items r.passings.items kept passings i))
+        subst (λ (n : ℕ). AreLinksIdle (home n r.agents) r.kept.items r.passings.items) (sym nodes)
+        (subst (λ (n : ℕ). AreLinksIdle (home q.nodes n) r.kept.items r.passings.items) (sym agents) (idle_slices (home q.nodes q.agents) q.kept.items r.kept.items q.passings.items r.passings.items kept passings i))
 
     -- where nothing was noted, nothing is told
-    pub ready_unseen : (p : NodePlan W) (cells : List (Cell X F)) → AreIdle (home p.nodes p.agents) p.kept.items p.passings.items → p.seen.items ≡ [] → AreReady M (home p.nodes p.agents) p cells
+    pub ready_unseen : (p : NodePlan W) (cells : List (Cell X F)) → AreLinksIdle (home p.nodes p.agents) p.kept.items p.passings.items → p.seen.items ≡ [] → AreReadyToExchange M (home p.nodes p.agents) p cells
     ready_unseen p cells idle unseen = record {
       idle = idle;
       sent = record { each = λ k w e b at_w at_e at noted. absurd (none-some (length (state_of M b).journal) (ap (λ (ns : List ℕ). slice_get ns w.sender) (sym unseen) ∙ noted)) };
@@ -275,11 +275,11 @@ module _ {X : Type 0} {F : X → Type 0} (M : DynBox X Global F → View) where
     }
 
     -- cells joined by as many nodes
-    pub joined_over : (p q : NodePlan W) (cells : List (Cell X F)) → q.nodes ≡ p.nodes → IsJoined M p.nodes cells → IsJoined M q.nodes cells
-    joined_over p q cells same j = subst (λ (n : ℕ). IsJoined M n cells) (sym same) j
+    pub joined_over : (p q : NodePlan W) (cells : List (Cell X F)) → q.nodes ≡ p.nodes → AreCellsJoined M p.nodes cells → AreCellsJoined M q.nodes cells
+    joined_over p q cells same j = subst (λ (n : ℕ). AreCellsJoined M n cells) (sym same) j
 
-    pub joined_back : (p q : NodePlan W) (cells : List (Cell X F)) → q.nodes ≡ p.nodes → IsJoined M q.nodes cells → IsJoined M p.nodes cells
-    joined_back p q cells same j = subst (λ (n : ℕ). IsJoined M n cells) same j
+    pub joined_back : (p q : NodePlan W) (cells : List (Cell X F)) → q.nodes ≡ p.nodes → AreCellsJoined M q.nodes cells → AreCellsJoined M p.nodes cells
+    joined_back p q cells same j = subst (λ (n : ℕ). AreCellsJoined M n cells) same j
 
     -- what tells of the nodes of one plan tells of those of another with as many
     as_there : (P : (ℕ → ℕ) → Type 0) (p q : NodePlan W) (cells : List (Cell X F)) → IsPlanOver M p q cells → P (home q.nodes q.agents) → P (home p.nodes p.agents)

@@ -27,7 +27,7 @@ use Rattle.worker_laws.proofs.StampLaws.{node_stamps_are_few}
 use Rattle.agent_cells.specs.declared.cell.Cell.{Cell}
 use Rattle.agent_cells.specs.declared.fault.VisitFault.TheVariants.{StampEnd}
 use Rattle.agent_cells.specs.State.{state_of}
-use Rattle.agent_workers.specs.Joined.{states_of, EachBecomes, IsSameCell, IsJoined}
+use Rattle.agent_workers.specs.Joined.{states_of, EachBecomes, IsSameCell, AreCellsJoined}
 use Rattle.agent_workers.specs.Settled.{HaveSettled}
 use Rattle.agent_workers.specs.Broken.{StandsOrEnds}
 use Rattle.agent_workers.specs.Run.{views_of, HasStarted, AreDulyPlayed, RestsAtStill}
@@ -44,7 +44,7 @@ use Rattle.tcp_links.specs.Plans.{IsPlan, IsNewPlan}
 use Rattle.tcp_links.specs.Faults.{IsKeptDifference}
 use Rattle.tcp_links.specs.Linked.{AreLinkedOver}
 use Rattle.tcp_links.specs.declared.plan.InnerEnds.{InnerEnds}
-use Rattle.tcp_links.specs.Woven.{AreIdle, AreWoven}
+use Rattle.tcp_links.specs.Woven.{AreLinksIdle, AreWoven}
 use Rattle.tcp_links.specs.Over.{IsPlanOver, HasExchanged, IsExchangeFault, ArePlayedOutOver, HasBrokenOver, ArePlayedTo}
 use Rattle.tcp_links.specs.Ends.{AreThere, IsDifference, IsFaultOver, HasHeldOver, HasDifference, DiffersOver}
 use Rattle.tcp_links.proofs.OverLaws.{map_at, woven_still, ready_unseen, byte_over}
@@ -145,7 +145,7 @@ module _ {X : Type 0} {F : X → Type 0} (M : DynBox X Global F → View) where
   same_started before after s = record { size = s.size; each = λ i a b e f. (s.each i a b e f).same }
 
   -- what has started, as plain values
-  pub starts_over : (nodes : ℕ) (before after : List (Cell X F)) → IsJoined M nodes before → EachBecomes (HasStarted M) before after → AreStarted (views_of M before) (states_of M after)
+  pub starts_over : (nodes : ℕ) (before after : List (Cell X F)) → AreCellsJoined M nodes before → EachBecomes (HasStarted M) before after → AreStarted (views_of M before) (states_of M after)
   starts_over nodes before after j s =
       let joined = joined_still M nodes before after j (same_started before after s) in
       record {
@@ -155,10 +155,10 @@ module _ {X : Type 0} {F : X → Type 0} (M : DynBox X Global F → View) where
             subst (λ (n : ℕ). IsWired n i c) (sym (length-map after (state_of M))) (subst (λ (y : CellState). IsWired (length after) i y) x.2 (joined.wired i x.0 x.1));
       }
 
-  pub joined_start : (nodes : ℕ) (before after : List (Cell X F)) → IsJoined M nodes before → EachBecomes (HasStarted M) before after → IsJoined M nodes after
+  pub joined_start : (nodes : ℕ) (before after : List (Cell X F)) → AreCellsJoined M nodes before → EachBecomes (HasStarted M) before after → AreCellsJoined M nodes after
   joined_start nodes before after j s = joined_still M nodes before after j (same_started before after s)
 
-  pub none_start : (nodes : ℕ) (before after : List (Cell X F)) → IsJoined M nodes before → EachBecomes (HasStarted M) before after → total (states_of M after) ≡ 0
+  pub none_start : (nodes : ℕ) (before after : List (Cell X F)) → AreCellsJoined M nodes before → EachBecomes (HasStarted M) before after → total (states_of M after) ≡ 0
   none_start nodes before after j s = none_taken (views_of M before) (states_of M after) (starts_over nodes before after j s).started
 
   -- cells that were played to so many rounds
@@ -185,7 +185,7 @@ module _ {X : Type 0} {F : X → Type 0} (M : DynBox X Global F → View) where
       ]
 
   module _ {W : Type 0} where
-    linked : (p : NodePlan W) (cells : List (Cell X F)) → IsPlan p → AreLinkedOver M p cells → IsJoined M p.nodes cells → AreWoven M p.nodes p.agents p.kept.items p.ends.items cells
+    linked : (p : NodePlan W) (cells : List (Cell X F)) → IsPlan p → AreLinkedOver M p cells → AreCellsJoined M p.nodes cells → AreWoven M p.nodes p.agents p.kept.items p.ends.items cells
     linked p cells plan l j = record {
       size = l.size;
       ends = plan.ends;
@@ -212,7 +212,7 @@ module _ {X : Type 0} {F : X → Type 0} (M : DynBox X Global F → View) where
     node_as P p q agents nodes h = subst (λ (n : ℕ). P (home n p.agents)) nodes (subst (λ (n : ℕ). P (home q.nodes n)) agents h)
 
     -- cells that have started are woven with a plan over which they lead
-    pub over_start : (p : NodePlan W) (before after : List (Cell X F)) → IsPlan p → AreLinkedOver M p before → IsJoined M p.nodes before → EachBecomes (HasStarted M) before after → AreIdle (home p.nodes p.agents) p.kept.items p.passings.items
+    pub over_start : (p : NodePlan W) (before after : List (Cell X F)) → IsPlan p → AreLinkedOver M p before → AreCellsJoined M p.nodes before → EachBecomes (HasStarted M) before after → AreLinksIdle (home p.nodes p.agents) p.kept.items p.passings.items
         → p.seen.items ≡ [] → IsPlanOver M p p after
     over_start p before after plan l j s idle unseen = record {
       plan = plan;

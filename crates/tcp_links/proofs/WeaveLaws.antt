@@ -28,7 +28,7 @@ use Rattle.agent_workers.proofs.PlayLaws.{set_back}
 use Rattle.tcp_links.specs.declared.plan.InnerEnds.{InnerEnds}
 use Rattle.tcp_links.specs.Drains.{HasDrained}
 use Rattle.tcp_links.specs.Feeds.{AllWaits}
-use Rattle.tcp_links.specs.Woven.{IsIdle, AreIdle, AreLinksOf, AreEmptied, CanDrain, CanDrainAll, CanFeed, CanFeedAll, AreStill, SentIsDrained, FedIsTaken, HasDrainedLink, HaveDrained, HasFedLink, HaveFed, KnowsElse, IsPassingOf}
+use Rattle.tcp_links.specs.Woven.{IsLinkIdle, AreLinksIdle, AreLinksOf, AreEmptied, CanDrain, CanDrainAll, CanFeed, CanFeedAll, AreStill, SentIsDrained, FedIsTaken, HasDrainedLink, HaveDrained, HasFedLink, HaveFed, KnowsElse, IsPassingOf}
 use Rattle.node_exchange.specs.Passings.{Passing, holding, emptied}
 use Rattle.tcp_links.proofs.DrainLaws.{tail_still, head_none, drained_none as nothing_drained}
 use Rattle.tcp_links.proofs.FeedLaws.{heads_still, tail_none}
@@ -106,7 +106,7 @@ emptied_turn k before now p q h at is =
     }
 
 -- one link more that holds nothing
-pub idle_push : (node : ℕ → ℕ) (ws : List Wire) (ps : List Passing) (w : Wire) (p : Passing) → AreIdle node ws ps → IsIdle node w p → AreIdle node (ws ++ w ∷ []) (ps ++ p ∷ [])
+pub idle_push : (node : ℕ → ℕ) (ws : List Wire) (ps : List Passing) (w : Wire) (p : Passing) → AreLinksIdle node ws ps → IsLinkIdle node w p → AreLinksIdle node (ws ++ w ∷ []) (ps ++ p ∷ [])
 idle_push node ws ps w p h one = record {
   size = length-append ps (p ∷ []) ∙ ap (λ (n : ℕ). n + 1) h.size ∙ sym (length-append ws (w ∷ []));
   each = λ k v q f g. elim (in_push_list ps p k q g) [
@@ -116,7 +116,7 @@ idle_push node ws ps w p h one = record {
     ]
     | inr new ↦ elim (in_push_list ws w k v f) [
       | inl was ↦ let inside = slice_get_within ws k v was in let size = h.size in let at = new.0 in absurd (omega (arith, inside, size, at))
-      | inr also ↦ subst (λ (x : Wire). IsIdle node x q) (sym also.1) (subst (λ (x : Passing). IsIdle node w x) (sym new.1) one)
+      | inr also ↦ subst (λ (x : Wire). IsLinkIdle node x q) (sym also.1) (subst (λ (x : Passing). IsLinkIdle node w x) (sym new.1) one)
     ]
   ];
 }
@@ -234,7 +234,7 @@ module _ {X : Type 0} {F : X → Type 0} (M : DynBox X Global F → View) where
         ];
       }
 
-  pub drained_none : (node : ℕ → ℕ) (cells : List (Cell X F)) (ws : List Wire) (before : List InnerEnds) (ps : List Passing) → AreIdle node ws ps → HaveDrained M node 0 cells ws before before ps
+  pub drained_none : (node : ℕ → ℕ) (cells : List (Cell X F)) (ws : List Wire) (before : List InnerEnds) (ps : List Passing) → AreLinksIdle node ws ps → HaveDrained M node 0 cells ws before before ps
   drained_none node cells ws before ps idle = record {
     size = refl;
     counted = idle.size;

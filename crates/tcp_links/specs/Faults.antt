@@ -19,18 +19,18 @@ node_fault round (pass_bytes from_node to_node place sent taken) = Differs (Byte
 node_fault round no_pass_memory = NoMemory
 
 -- the fault is not a difference
-abbrev pub IsNoDifference : NodeFault → Type 0
-IsNoDifference Failed = Unit {0}
-IsNoDifference (Differs d) = ⊥
-IsNoDifference NoMemory = Unit {0}
+abbrev pub IsOtherFault : NodeFault → Type 0
+IsOtherFault Failed = Unit {0}
+IsOtherFault (Differs d) = ⊥
+IsOtherFault NoMemory = Unit {0}
 
 -- a difference is one of bytes between two nodes, met in the exchange after `round` rounds; other
 -- faults say nothing
-abbrev pub IsByteFault : ℕ → ℕ → List Passing → NodeFault → Type 0
-IsByteFault nodes round ps Failed = Unit {0}
-IsByteFault nodes round ps (Differs (Message from to at sent taken)) = ⊥
-IsByteFault nodes round ps (Differs (Bytes behind from_node to_node place sent taken)) = (behind ≡ round) × IsByteBetween nodes ps from_node to_node place sent taken
-IsByteFault nodes round ps NoMemory = Unit {0}
+abbrev pub IsByteFaultAfter : ℕ → ℕ → List Passing → NodeFault → Type 0
+IsByteFaultAfter nodes round ps Failed = Unit {0}
+IsByteFaultAfter nodes round ps (Differs (Message from to at sent taken)) = ⊥
+IsByteFaultAfter nodes round ps (Differs (Bytes behind from_node to_node place sent taken)) = (behind ≡ round) × IsByteBetween nodes ps from_node to_node place sent taken
+IsByteFaultAfter nodes round ps NoMemory = Unit {0}
 
 -- this is the first difference between what was drained of links and what arrived on them
 abbrev pub IsKeptDifference : List Wire → Difference → Type 0

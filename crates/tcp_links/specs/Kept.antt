@@ -7,6 +7,6 @@ use Rattle.tcp_links.specs.declared.plan.InnerEnds.{InnerEnds}
 
 -- all that was ever drained of a link is what its passages drained, in order, and all that was ever
 -- fed to its receiver is what arrived in them
-pub record IsKept (w : Wire) (ends : InnerEnds) : Type 0 where
+pub record IsLinkKept (w : Wire) (ends : InnerEnds) : Type 0 where
   pub drained : flat_map (λ p. p.drained) w.passages ≡ taken_from ends.drain
   pub arrived : flat_map (λ p. p.arrived) w.passages ≡ sent_on ends.feed

@@ -28,9 +28,9 @@ use Rattle.tcp_links.specs.declared.fault.Difference.{Difference}
 use Rattle.tcp_links.specs.declared.fault.NodeFault.{NodeFault}
 use Rattle.tcp_links.specs.declared.fault.NodeFault.TheVariants.{Failed, Differs, NoMemory}
 use Rattle.tcp_links.specs.Plans.{IsPlan}
-use Rattle.tcp_links.specs.Woven.{AreWoven, IsPassingOf, AreIdle, SentWasDrained, FedWasTaken, HaveCaughtUp}
+use Rattle.tcp_links.specs.Woven.{AreWoven, IsPassingOf, AreLinksIdle, SentWasDrained, FedWasTaken, HaveCaughtUp}
 use Rattle.node_exchange.specs.Passings.{Passing}
-use Rattle.tcp_links.specs.Faults.{IsByteFault}
+use Rattle.tcp_links.specs.Faults.{IsByteFaultAfter}
 
 -- what an exchange passes on a link is all that its sender has sent and no earlier exchange has
 -- drained
@@ -41,8 +41,8 @@ pub record IsDrainedOf (node : ℕ → ℕ) (cells : List CellState) (w : Wire) 
 module _ {X : Type 0} {F : X → Type 0} {W : Type 0} where
   -- the passings of a plan are empty; if a cell's journal is as long as was noted, all that it sent
   -- was drained, and if nothing waited for it, it has taken all that was fed
-  pub record AreReady (meaning : DynBox X Global F → View) (node : ℕ → ℕ) (p : NodePlan W) (cells : List (Cell X F)) : Type 0 where
-    pub idle : AreIdle node p.kept.items p.passings.items
+  pub record AreReadyToExchange (meaning : DynBox X Global F → View) (node : ℕ → ℕ) (p : NodePlan W) (cells : List (Cell X F)) : Type 0 where
+    pub idle : AreLinksIdle node p.kept.items p.passings.items
     pub sent : SentWasDrained meaning p.seen.items p.kept.items p.ends.items cells
     pub fed : FedWasTaken meaning p.seen.items p.kept.items p.ends.items cells
 
@@ -53,7 +53,7 @@ module _ {X : Type 0} {F : X → Type 0} {W : Type 0} where
     pub nodes : q.nodes ≡ p.nodes
     pub agents : q.agents ≡ p.agents
     pub woven : AreWoven meaning q.nodes q.agents q.kept.items q.ends.items cells
-    pub ready : AreReady meaning (home q.nodes q.agents) q cells
+    pub ready : AreReadyToExchange meaning (home q.nodes q.agents) q cells
 
   -- an exchange passed over a plan, which is then ready for the next one
   pub record HasExchanged (meaning : DynBox X Global F → View) (before : NodePlan W) (cells : List (Cell X F)) (after : NodePlan W) (ready : List (Cell X F)) : Type 0 where
@@ -65,7 +65,7 @@ module _ {X : Type 0} {F : X → Type 0} {W : Type 0} where
   pub record HasPassedOther (meaning : DynBox X Global F → View) (round : ℕ) (p : NodePlan W) (cells : List (Cell X F)) (d : Difference) : Type 0 where
     pub passings : List Passing
     pub drained : EachAre (IsDrainedOf (home p.nodes p.agents) (states_of meaning cells)) p.kept.items passings
-    pub fault : IsByteFault p.nodes round passings (Differs d)
+    pub fault : IsByteFaultAfter p.nodes round passings (Differs d)
 
   -- a difference that an exchange finds is one of the bytes that it passed; other faults say
   -- nothing

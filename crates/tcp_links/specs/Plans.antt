@@ -5,7 +5,7 @@ use Rattle.dcop_base.specs.Limits.{variable_limit, node_limit}
 use Rattle.protocol_steps.specs.declared.message.Message.{Message}
 use Rattle.worker_laws.specs.OneNode.{home}
 use Rattle.worker_laws.specs.Wires.{Wire, AreApart}
-use Rattle.link_records.specs.Differences.{ComesBefore}
+use Rattle.link_records.specs.Differences.{IsLowerLink}
 use Rattle.fifo_links.specs.declared.ends.LinkTail.{LinkTail}
 use Rattle.fifo_links.specs.declared.ends.LinkHead.{LinkHead}
 use Rattle.fifo_links.specs.Link.{AreEnds, sent_on, taken_from}
@@ -26,7 +26,7 @@ pub record IsBetween (agents nodes : ℕ) (w : Wire) : Type 0 where
 
 -- links are in order, by sender and then receiver
 abbrev pub AreOrdered : List Wire → Type 0
-AreOrdered ws = (k l : ℕ) (v w : Wire) → slice_get ws k ≡ Some v → slice_get ws l ≡ Some w → k < l → ComesBefore v w
+AreOrdered ws = (k l : ℕ) (v w : Wire) → slice_get ws k ≡ Some v → slice_get ws l ≡ Some w → k < l → IsLowerLink v w
 
 -- a link from one agent to another that has passed nothing
 abbrev pub fresh_link : ℕ → ℕ → Wire
@@ -36,8 +36,8 @@ fresh_link from to = record { receiver = to; sender = from; passages = [] }
 -- before the rest
 pub record BelongsAt (ws : List Wire) (from to place : ℕ) : Type 0 where
   pub inside : place ≤ length ws
-  pub below : (k : ℕ) (w : Wire) → slice_get ws k ≡ Some w → k < place → ComesBefore w (fresh_link from to)
-  pub above : (k : ℕ) (w : Wire) → slice_get ws k ≡ Some w → place ≤ k → ComesBefore (fresh_link from to) w
+  pub below : (k : ℕ) (w : Wire) → slice_get ws k ≡ Some w → k < place → IsLowerLink w (fresh_link from to)
+  pub above : (k : ℕ) (w : Wire) → slice_get ws k ≡ Some w → place ≤ k → IsLowerLink (fresh_link from to) w
 
 module _ {W : Type 0} where
   -- a plan: up to 1,000 agents in up to 8 nodes, a pair of wires for each pair of nodes, and inner

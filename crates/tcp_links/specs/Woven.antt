@@ -15,7 +15,7 @@ use Rattle.agent_cells.specs.Settled.{TailJoins, HeadJoins}
 use Rattle.agent_cells.specs.State.{state_of, tails_in, heads_in, IsCell}
 use Rattle.tcp_links.specs.declared.plan.InnerEnds.{InnerEnds}
 use Rattle.tcp_links.specs.Plans.{IsBetween}
-use Rattle.tcp_links.specs.Kept.{IsKept}
+use Rattle.tcp_links.specs.Kept.{IsLinkKept}
 use Rattle.tcp_links.specs.Drains.{HasDrained}
 use Rattle.tcp_links.specs.Feeds.{AllWaits}
 use Rattle.node_exchange.specs.Passings.{Passing, emptied as emptied_of}
@@ -28,15 +28,15 @@ pub record IsPassingOf (node : ℕ → ℕ) (w : Wire) (p : Passing) : Type 0 wh
   pub to_node : p.to_node ≡ node w.receiver
 
 -- a link of which nothing was drained, and on which nothing has arrived
-pub record IsIdle (node : ℕ → ℕ) (w : Wire) (p : Passing) : Type 0 where
+pub record IsLinkIdle (node : ℕ → ℕ) (w : Wire) (p : Passing) : Type 0 where
   pub link : IsPassingOf node w p
   pub drained : p.drained ≡ []
   pub arrived : p.arrived ≡ []
 
 -- nothing was drained of any of these links, and nothing has arrived on them
-pub record AreIdle (node : ℕ → ℕ) (ws : List Wire) (ps : List Passing) : Type 0 where
+pub record AreLinksIdle (node : ℕ → ℕ) (ws : List Wire) (ps : List Passing) : Type 0 where
   pub size : length ps ≡ length ws
-  pub each : (k : ℕ) (w : Wire) (p : Passing) → slice_get ws k ≡ Some w → slice_get ps k ≡ Some p → IsIdle node w p
+  pub each : (k : ℕ) (w : Wire) (p : Passing) → slice_get ws k ≡ Some w → slice_get ps k ≡ Some p → IsLinkIdle node w p
 
 -- each passing leads from its link's sender to its receiver
 pub record AreLinksOf (ws : List Wire) (ps : List Passing) : Type 0 where
@@ -56,7 +56,7 @@ module _ {X : Type 0} {F : X → Type 0} where
     pub feeds : HeadJoins (heads_in to) w.sender ends.feed
     pub sends : Contains (peers (state_of meaning from).sent) w.receiver
     pub takes : Contains (peers (state_of meaning to).taken) w.sender
-    pub kept : IsKept w ends
+    pub kept : IsLinkKept w ends
 
   -- each link is woven with its two cells; the links lead between different nodes, no two with the
   -- same sender and receiver, and each cell has a link to each of its peers in another node

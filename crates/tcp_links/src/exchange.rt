@@ -3,13 +3,13 @@
 ghost use Rattle.std.specs.Prelude.{◌≡◌, OnOk, IfErr};
 ghost use Rattle.worker_laws.specs.Wires.{HaveHeld};
 ghost use Rattle.agent_cells.specs.State.{IsCell};
-ghost use Rattle.agent_workers.specs.Joined.{EachIs, EachBecomes, IsJoined};
+ghost use Rattle.agent_workers.specs.Joined.{EachIs, EachBecomes, AreCellsJoined};
 ghost use Rattle.agent_workers.specs.Settled.{StaysQuiet};
 ghost use Rattle.tcp_links.specs.Plans.{IsPlan, IsHonest};
-ghost use Rattle.tcp_links.specs.Faults.{HasNodeCause, IsNoDifference};
+ghost use Rattle.tcp_links.specs.Faults.{HasNodeCause, IsOtherFault};
 ghost use Rattle.tcp_links.specs.Woven.{AreWoven};
 ghost use Rattle.worker_laws.specs.OneNode.{home};
-ghost use Rattle.tcp_links.specs.Over.{AreReady, HasExchanged, IsExchangeFault};
+ghost use Rattle.tcp_links.specs.Over.{AreReadyToExchange, HasExchanged, IsExchangeFault};
 
 use crate::fault::{NodeFault, node_fault};
 use crate::plan::NodePlan;
@@ -42,8 +42,8 @@ where
     D: Dialer,
     requires plan { IsPlan plan.old }
     requires woven { AreWoven (λ b. meaning (b.vtable, b.value)) plan.old.nodes plan.old.agents plan.old.kept.items plan.old.ends.items cells.old }
-    requires joined { IsJoined (λ b. meaning (b.vtable, b.value)) plan.old.nodes cells.old }
-    requires ready { AreReady (λ b. meaning (b.vtable, b.value)) (home plan.old.nodes plan.old.agents) plan.old cells.old }
+    requires joined { AreCellsJoined (λ b. meaning (b.vtable, b.value)) plan.old.nodes cells.old }
+    requires ready { AreReadyToExchange (λ b. meaning (b.vtable, b.value)) (home plan.old.nodes plan.old.agents) plan.old cells.old }
     requires sound { EachIs (λ c. IsCell (λ b. meaning (b.vtable, b.value)) c) cells.old }
     ensures quiet { EachBecomes (λ a b. StaysQuiet (λ b. meaning (b.vtable, b.value)) a b) cells.old cells.new }
     ensures exchanged { OnOk result (HasExchanged (λ b. meaning (b.vtable, b.value)) plan.old cells.old plan.new cells.new) }
@@ -51,7 +51,7 @@ where
     ensures dialer { D.is_honest dialer.old → D.is_honest dialer.new }
     ensures differs { IfErr result (IsExchangeFault (λ b. meaning (b.vtable, b.value)) round plan.old cells.old) }
     ensures honest { IsHonest D.W.told D.W.is_joined plan.old
-        → OnOk result (IsHonest D.W.told D.W.is_joined plan.new × (HaveHeld plan.old.kept.items → HaveHeld plan.new.kept.items)) × IfErr result IsNoDifference }
+        → OnOk result (IsHonest D.W.told D.W.is_joined plan.new × (HaveHeld plan.old.kept.items → HaveHeld plan.new.kept.items)) × IfErr result IsOtherFault }
 {
     let nodes = plan.nodes;
     let still = still_cells(cells, plan.seen.as_slice());

@@ -5,7 +5,7 @@ ghost use Rattle.std.specs.List.{All};
 ghost use Rattle.dcop_base.specs.Limits.{variable_limit, node_limit};
 ghost use Rattle.worker_laws.specs.OneNode.{home as home_of};
 ghost use Rattle.tcp_links.specs.Plans.{IsBetween};
-ghost use Rattle.tcp_links.specs.Woven.{IsIdle, AreIdle};
+ghost use Rattle.tcp_links.specs.Woven.{IsLinkIdle, AreLinksIdle};
 
 use crate::plan::home;
 use dcop_base::NoMemory;
@@ -22,7 +22,7 @@ pub(crate) fn idle_passings(
 ) -> Result<Vec<LinkPassing>, NoMemory>
     requires few { (agents ≤ variable_limit) × (nodes ≤ node_limit) }
     requires between { All (IsBetween agents nodes) kept.now }
-    ensures idle { IfOk result (λ ps. AreIdle (home_of nodes agents) kept.now ps.items) }
+    ensures idle { IfOk result (λ ps. AreLinksIdle (home_of nodes agents) kept.now ps.items) }
 {
     let mut passings = Vec::with_capacity(alloc, kept.len())?;
     for link in kept {
@@ -35,7 +35,7 @@ pub(crate) fn idle_passings(
 fn idle_passing(alloc: Global, link: &KeptLink, nodes: u32, agents: u32) -> LinkPassing
     requires inside { (link.now.sender < agents) × (link.now.receiver < agents) }
     requires few { (agents ≤ variable_limit) × (nodes ≤ node_limit) }
-    ensures { IsIdle (home_of nodes agents) link.now result }
+    ensures { IsLinkIdle (home_of nodes agents) link.now result }
 {
     let (from, to) = (link.from(), link.to());
     let from_node = home(from, nodes, agents);

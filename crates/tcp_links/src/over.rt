@@ -6,9 +6,9 @@ ghost use Rattle.worker_laws.specs.CellRounds.{total};
 ghost use Rattle.worker_laws.specs.OneNode.{home};
 ghost use Rattle.worker_laws.specs.Wires.{HaveHeld};
 ghost use Rattle.agent_cells.specs.State.{fault_in};
-ghost use Rattle.agent_workers.specs.Joined.{states_of, EachIs, HasBegun, IsJoined};
+ghost use Rattle.agent_workers.specs.Joined.{states_of, EachIs, HasBegun, AreCellsJoined};
 ghost use Rattle.tcp_links.specs.Plans.{IsHonest};
-ghost use Rattle.tcp_links.specs.Faults.{HasNodeCause, IsNoDifference};
+ghost use Rattle.tcp_links.specs.Faults.{HasNodeCause, IsOtherFault};
 ghost use Rattle.tcp_links.specs.Over.{IsPlanOver, IsRoundOver, IsExchangeFault, ArePlayedTo};
 ghost use Rattle.tcp_links.specs.Ends.{IsFaultOver};
 ghost use Rattle.tcp_links.specs.Shared.{IfEnded, IsSharedOver, ArePlayedShared};
@@ -55,12 +55,12 @@ where
     requires workers { 0 < workers }
     requires budget { budget ≤ budget_limit }
     requires over { IsPlanOver (λ b. meaning (b.vtable, b.value)) plan.old plan.old cells.old }
-    requires joined { IsJoined (λ b. meaning (b.vtable, b.value)) plan.old.nodes cells.old }
+    requires joined { AreCellsJoined (λ b. meaning (b.vtable, b.value)) plan.old.nodes cells.old }
     requires begun { EachIs (λ c. HasBegun (λ b. meaning (b.vtable, b.value)) c) cells.old }
     requires fine { EachIs (λ c. fault_in c ≡ none) cells.old }
     requires none { total (states_of (λ b. meaning (b.vtable, b.value)) cells.old) ≡ 0 }
     ensures size { length cells.new ≡ length cells.old }
-    ensures joined { IsJoined (λ b. meaning (b.vtable, b.value)) plan.old.nodes cells.new }
+    ensures joined { AreCellsJoined (λ b. meaning (b.vtable, b.value)) plan.old.nodes cells.new }
     ensures begun { EachIs (λ c. HasBegun (λ b. meaning (b.vtable, b.value)) c) cells.new }
     ensures over { OnOk result (IsPlanOver (λ b. meaning (b.vtable, b.value)) plan.old plan.new cells.new) }
     ensures played { IfOk result (λ play. ArePlayedTo (λ b. meaning (b.vtable, b.value)) (home plan.old.nodes plan.old.agents) budget plan.old.kept.items
@@ -70,7 +70,7 @@ where
     ensures dialer { D.is_honest dialer.old → D.is_honest dialer.new }
     ensures differs { IfErr result (IsFaultOver plan.old.nodes (home plan.old.nodes plan.old.agents) budget plan.old.kept.items (states_of (λ b. meaning (b.vtable, b.value)) cells.old)) }
     ensures honest { IsHonest D.W.told D.W.is_joined plan.old → HaveHeld plan.old.kept.items
-        → OnOk result (IsHonest D.W.told D.W.is_joined plan.new × HaveHeld plan.new.kept.items) × IfErr result IsNoDifference }
+        → OnOk result (IsHonest D.W.told D.W.is_joined plan.new × HaveHeld plan.new.kept.items) × IfErr result IsOtherFault }
 {
     let mut deliveries = 0;
     if all_ended(cells) {
@@ -113,11 +113,11 @@ where
     G: Gate,
     requires workers { 0 < workers }
     requires over { IsPlanOver (λ b. meaning (b.vtable, b.value)) plan.old plan.old cells.old }
-    requires joined { IsJoined (λ b. meaning (b.vtable, b.value)) plan.old.nodes cells.old }
+    requires joined { AreCellsJoined (λ b. meaning (b.vtable, b.value)) plan.old.nodes cells.old }
     requires begun { EachIs (λ c. HasBegun (λ b. meaning (b.vtable, b.value)) c) cells.old }
     requires fine { EachIs (λ c. fault_in c ≡ none) cells.old }
     ensures size { length cells.new ≡ length cells.old }
-    ensures joined { IsJoined (λ b. meaning (b.vtable, b.value)) plan.old.nodes cells.new }
+    ensures joined { AreCellsJoined (λ b. meaning (b.vtable, b.value)) plan.old.nodes cells.new }
     ensures begun { EachIs (λ c. HasBegun (λ b. meaning (b.vtable, b.value)) c) cells.new }
     ensures over { OnOk result (IsPlanOver (λ b. meaning (b.vtable, b.value)) plan.old plan.new cells.new) }
     ensures round { IfOk result (IsRoundOver (λ b. meaning (b.vtable, b.value)) plan.old cells.old plan.new cells.new) }
@@ -126,7 +126,7 @@ where
     ensures dialer { D.is_honest dialer.old → D.is_honest dialer.new }
     ensures differs { IfErr result (IsExchangeFault (λ b. meaning (b.vtable, b.value)) round plan.old cells.old) }
     ensures honest { IsHonest D.W.told D.W.is_joined plan.old
-        → OnOk result (IsHonest D.W.told D.W.is_joined plan.new × (HaveHeld plan.old.kept.items → HaveHeld plan.new.kept.items)) × IfErr result IsNoDifference }
+        → OnOk result (IsHonest D.W.told D.W.is_joined plan.new × (HaveHeld plan.old.kept.items → HaveHeld plan.new.kept.items)) × IfErr result IsOtherFault }
 {
     exchange(rt, alloc, dialer, cells, plan, round)?;
     match play_round(rt, cells, plan.nodes, workers, gate) {

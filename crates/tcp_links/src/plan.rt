@@ -4,7 +4,7 @@ ghost use Rattle.std.specs.Prelude.{◌≡◌, ◌≢◌, ◌↔◌, ℕ, ◌<�
 ghost use Rattle.std.specs.List.{insert};
 ghost use Rattle.dcop_base.specs.Limits.{variable_limit, node_limit};
 ghost use Rattle.worker_laws.specs.OneNode.{home};
-ghost use Rattle.link_records.specs.Differences.{ComesBefore};
+ghost use Rattle.link_records.specs.Differences.{IsLowerLink};
 ghost use Rattle.fifo_links.specs.Link.{AreEnds, sent_on, taken_from};
 ghost use Rattle.wire_pump.specs.Dialer.{HasDialCause};
 ghost use Rattle.tcp_links.specs.Plans.{pair_count, AreOrdered, IsPlan, IsHonest, HasNoLink, IsNewPlan, IsNewLink, IsSamePlan, fresh_link, BelongsAt};
@@ -186,7 +186,7 @@ fn place_of(kept: &[KeptLink], from: VarId, to: VarId) -> usize
 
 /// Whether a link comes before one with this sender and receiver.
 fn comes_before(link: &KeptLink, from: VarId, to: VarId) -> bool
-    ensures { (result ≡ true) ↔ ComesBefore link.now (fresh_link from to) }
+    ensures { (result ≡ true) ↔ IsLowerLink link.now (fresh_link from to) }
 {
     let sender = link.from();
     if sender != from {

@@ -5,15 +5,15 @@ ghost use Rattle.dcop_base.specs.Limits.{variable_limit, budget_limit, node_limi
 ghost use Rattle.worker_laws.specs.CellRuns.{MakesARun};
 ghost use Rattle.worker_laws.specs.Wires.{HaveHeld};
 ghost use Rattle.agent_cells.specs.State.{begun_in, IsCell};
-ghost use Rattle.agent_workers.specs.Joined.{states_of, EachIs, IsJoined};
+ghost use Rattle.agent_workers.specs.Joined.{states_of, EachIs, AreCellsJoined};
 ghost use Rattle.agent_workers.specs.Run.{views_of, AreDulyPlayed, RestsAtStill};
 ghost use Rattle.tcp_links.specs.Plans.{pair_count, IsPlan, IsHonest, IsNewPlan, IsSamePlan};
 ghost use Rattle.worker_laws.specs.OneNode.{home};
-ghost use Rattle.tcp_links.specs.Woven.{AreIdle};
+ghost use Rattle.tcp_links.specs.Woven.{AreLinksIdle};
 ghost use Rattle.tcp_links.specs.Linked.{AreLinkedOver};
 ghost use Rattle.tcp_links.specs.Ends.{HasHeldOver, DiffersOver};
 ghost use Rattle.tcp_links.specs.Shared.{HaveRunShared};
-ghost use Rattle.tcp_links.specs.Faults.{HasNodeCause, IsNoDifference, IsKeptDifference};
+ghost use Rattle.tcp_links.specs.Faults.{HasNodeCause, IsOtherFault, IsKeptDifference};
 
 use crate::exchange::exchange;
 use crate::fault::{Difference, NodeFault};
@@ -69,7 +69,7 @@ where
     requires workers { 0 < workers }
     requires budget { budget ≤ budget_limit }
     requires plan { IsPlan plan.old }
-    requires joined { IsJoined (λ b. meaning (b.vtable, b.value)) plan.old.nodes cells.old.items }
+    requires joined { AreCellsJoined (λ b. meaning (b.vtable, b.value)) plan.old.nodes cells.old.items }
     requires linked { AreLinkedOver (λ b. meaning (b.vtable, b.value)) plan.old cells.old.items }
     requires sound { EachIs (λ c. IsCell (λ b. meaning (b.vtable, b.value)) c) cells.old.items }
     requires fresh { EachIs (λ c. begun_in c ≡ false) cells.old.items }
@@ -84,7 +84,7 @@ where
     ensures cause { HasNodeCause (D.faults dialer.old) (D.faults dialer.new) result }
     ensures plan { OnOk result (IsNewPlan plan.old.agents plan.old.nodes plan.new) }
     ensures dialer { D.is_honest dialer.old → D.is_honest dialer.new }
-    ensures honest { IsHonest D.W.told D.W.is_joined plan.old → OnOk result (IsHonest D.W.told D.W.is_joined plan.new) × IfErr result IsNoDifference }
+    ensures honest { IsHonest D.W.told D.W.is_joined plan.old → OnOk result (IsHonest D.W.told D.W.is_joined plan.new) × IfErr result IsOtherFault }
 {
     prepare(alloc, plan)?;
     run_over(
@@ -103,7 +103,7 @@ where
 fn prepare<W: Wire>(alloc: Global, plan: &mut NodePlan<W>) -> Result<(), NoMemory>
     requires { IsPlan plan.old }
     ensures same { IsSamePlan plan.old plan.new }
-    ensures idle { OnOk result (AreIdle (home plan.new.nodes plan.new.agents) plan.new.kept.items plan.new.passings.items) }
+    ensures idle { OnOk result (AreLinksIdle (home plan.new.nodes plan.new.agents) plan.new.kept.items plan.new.passings.items) }
     ensures unseen { OnOk result (plan.new.seen.items ≡ []) }
 {
     let (nodes, agents) = (plan.nodes, plan.agents);
@@ -130,11 +130,11 @@ where
     requires workers { 0 < workers }
     requires budget { budget ≤ budget_limit }
     requires plan { IsPlan plan.old }
-    requires joined { IsJoined (λ b. meaning (b.vtable, b.value)) plan.old.nodes cells.old }
+    requires joined { AreCellsJoined (λ b. meaning (b.vtable, b.value)) plan.old.nodes cells.old }
     requires linked { AreLinkedOver (λ b. meaning (b.vtable, b.value)) plan.old cells.old }
     requires sound { EachIs (λ c. IsCell (λ b. meaning (b.vtable, b.value)) c) cells.old }
     requires fresh { EachIs (λ c. begun_in c ≡ false) cells.old }
-    requires idle { AreIdle (home plan.old.nodes plan.old.agents) plan.old.kept.items plan.old.passings.items }
+    requires idle { AreLinksIdle (home plan.old.nodes plan.old.agents) plan.old.kept.items plan.old.passings.items }
     requires unseen { plan.old.seen.items ≡ [] }
     ensures size { length cells.new ≡ length cells.old }
     ensures run { IfOk result (λ end. MakesARun budget (views_of (λ b. meaning (b.vtable, b.value)) cells.old)
@@ -148,7 +148,7 @@ where
     ensures cause { HasNodeCause (D.faults dialer.old) (D.faults dialer.new) result }
     ensures plan { OnOk result (IsNewPlan plan.old.agents plan.old.nodes plan.new) }
     ensures dialer { D.is_honest dialer.old → D.is_honest dialer.new }
-    ensures honest { IsHonest D.W.told D.W.is_joined plan.old → OnOk result (IsHonest D.W.told D.W.is_joined plan.new) × IfErr result IsNoDifference }
+    ensures honest { IsHonest D.W.told D.W.is_joined plan.old → OnOk result (IsHonest D.W.told D.W.is_joined plan.new) × IfErr result IsOtherFault }
 {
     begin_all(cells)?;
     let play = play_over(rt, alloc, cells, plan, dialer, workers, budget, gate)?;

@@ -7,7 +7,7 @@ ghost use Rattle.agent_cells.specs.State.{state_of};
 ghost use Rattle.agent_workers.specs.Joined.{EachBecomes};
 ghost use Rattle.agent_workers.specs.Settled.{StaysQuiet};
 ghost use Rattle.node_exchange.specs.Passings.{holding, emptied};
-ghost use Rattle.tcp_links.specs.Woven.{AreIdle, AreLinksOf, CanDrain, CanDrainAll, CanFeed, CanFeedAll, HasDrainedLink, HaveDrained, HasFedLink, HaveFed, AreEmptied, KnowsElse, SentIsDrained, FedIsTaken};
+ghost use Rattle.tcp_links.specs.Woven.{AreLinksIdle, AreLinksOf, CanDrain, CanDrainAll, CanFeed, CanFeedAll, HasDrainedLink, HaveDrained, HasFedLink, HaveFed, AreEmptied, KnowsElse, SentIsDrained, FedIsTaken};
 
 use crate::drain::drain_link;
 use crate::feed::feed_link;
@@ -32,9 +32,9 @@ pub(crate) fn drain_all(
     requires sizes { length ends.old ≡ length kept.now }
     requires can { CanDrainAll (λ b. meaning (b.vtable, b.value)) kept.now ends.old cells.old }
     requires drained { SentIsDrained (λ b. meaning (b.vtable, b.value)) still.now kept.now ends.old cells.old }
-    requires idle { (node : ℕ → ℕ) × AreIdle node kept.now passings.old }
+    requires idle { (node : ℕ → ℕ) × AreLinksIdle node kept.now passings.old }
     ensures quiet { EachBecomes (λ a b. StaysQuiet (λ b. meaning (b.vtable, b.value)) a b) cells.old cells.new }
-    ensures drained { OnOk result ((node : ℕ → ℕ) → AreIdle node kept.now passings.old
+    ensures drained { OnOk result ((node : ℕ → ℕ) → AreLinksIdle node kept.now passings.old
         → HaveDrained (λ b. meaning (b.vtable, b.value)) node (length kept.now) cells.old kept.now ends.old ends.new passings.new) }
 {
     for (place, link) in kept.iter().enumerate() {

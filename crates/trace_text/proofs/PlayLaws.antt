@@ -25,7 +25,7 @@ use Rattle.delivery_core.specs.Faults.{FirstFault}
 use Rattle.delivery_core.proofs.RunLaws.{run_more}
 use Rattle.trace_text.specs.Lines.{took_words, sent_words, agent_lines, start_words, event_words}
 use Rattle.trace_text.specs.Trace.{start_of, start_lines, lines_of_event, event_lines}
-use Rattle.trace_text.specs.Told.{start_told, event_told, Plays, TellsOne, Played}
+use Rattle.trace_text.specs.Told.{start_told, event_told, PlaysEvent, TellsOne, Played}
 
 -- the view of an agent, in a core state of this network
 pub view_is : (p : Dcop) (net : Network) (core : CoreView) (i : ℕ) → IsCore p net core → view_at core i ≡ slice_get net.views i
@@ -52,7 +52,7 @@ there_after old new e some goes = agent_there some.0 some.1 old new (event_of e)
 
 -- an event of a log is played as an event of a run
 pub plays_as : (old new : CoreView) (plain : Event) (e : LogEvent) (found : Option EventFault) → plain ≡ event_of e
-    → MatchOption found (Advances old plain new) (λ fault. Refuses old plain fault) → Plays old e new found
+    → MatchOption found (Advances old plain new) (λ fault. Refuses old plain fault) → PlaysEvent old e new found
 plays_as old new plain e None is h = subst (λ (x : Event). Advances old x new) is h
 plays_as old new plain e (Some fault) is h = subst (λ (x : Event). Refuses old x fault) is h
 
@@ -60,11 +60,11 @@ pub if-ok : {A E : Type 0} (r : Result A E) (P Q : A → Type 0) → ((x : A) �
 if-ok (Ok x) P Q f h = f x h
 if-ok (Err e) P Q f h = tt
 
-pub advances_so : (old new : CoreView) (e : LogEvent) (found : Option EventFault) → found ≡ None → Plays old e new found → Advances old (event_of e) new
-advances_so old new e found none h = subst (Plays old e new) none h
+pub advances_so : (old new : CoreView) (e : LogEvent) (found : Option EventFault) → found ≡ None → PlaysEvent old e new found → Advances old (event_of e) new
+advances_so old new e found none h = subst (PlaysEvent old e new) none h
 
-pub refuses_so : (old new : CoreView) (e : LogEvent) (found : Option EventFault) (fault : EventFault) → found ≡ Some fault → Plays old e new found → Refuses old (event_of e) fault
-refuses_so old new e found fault some h = subst (Plays old e new) some h
+pub refuses_so : (old new : CoreView) (e : LogEvent) (found : Option EventFault) (fault : EventFault) → found ≡ Some fault → PlaysEvent old e new found → Refuses old (event_of e) fault
+refuses_so old new e found fault some h = subst (PlaysEvent old e new) some h
 
 pub none_is : (o : Option EventFault) (b : Bool) → is_some o ≡ not b → b ≡ true → o ≡ None
 none_is None b h t = refl

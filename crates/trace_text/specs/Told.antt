@@ -29,9 +29,9 @@ event_told names core number e took sent =
     event_words names number e ∷ map (took_words names) took ++ agent_lines names (view_at core e.agent) ++ map (sent_words names) sent
 
 -- the event leads from one core state to another, or has this fault
-abbrev pub Plays : CoreView → LogEvent → CoreView → Option EventFault → Type 0
-Plays old e new None = Advances old (event_of e) new
-Plays old e new (Some fault) = Refuses old (event_of e) fault
+abbrev pub PlaysEvent : CoreView → LogEvent → CoreView → Option EventFault → Type 0
+PlaysEvent old e new None = Advances old (event_of e) new
+PlaysEvent old e new (Some fault) = Refuses old (event_of e) fault
 
 -- the event with this number led from one core state to another, and its lines were added to the
 -- text
@@ -57,5 +57,5 @@ TellsFrom net names from log old new (Err (BadEvent at fault)) = (place : ℕ) �
 TellsFrom net names from log old new (Err NoMemory) = Unit {0}
 
 -- the same for each network that the core state may be
-abbrev pub Tells : {A : Type 0} → List (List ℕ) → ℕ → List LogEvent → CoreView → List ℕ → List ℕ → Result A ReplayFault → Type 0
-Tells names from log core old new result = (p : Dcop) (net : Network) → IsCore p net core → TellsFrom net names from log old new result
+abbrev pub TellsEvent : {A : Type 0} → List (List ℕ) → ℕ → List LogEvent → CoreView → List ℕ → List ℕ → Result A ReplayFault → Type 0
+TellsEvent names from log core old new result = (p : Dcop) (net : Network) → IsCore p net core → TellsFrom net names from log old new result

@@ -10,7 +10,7 @@ ghost use Rattle.run_log.specs.Logs.{event_of};
 ghost use Rattle.delivery_core.specs.Agents.{IsStartFor, network_of};
 ghost use Rattle.delivery_core.specs.Shown.{IsCore, IsSomeCore};
 ghost use Rattle.trace_text.specs.Trace.{Traces, start_lines};
-ghost use Rattle.trace_text.specs.Told.{Plays, TellsOne, Tells};
+ghost use Rattle.trace_text.specs.Told.{PlaysEvent, TellsOne, TellsEvent};
 
 use crate::lines::{write_event, write_start};
 use dcop_base::{Bytes, NoMemory, Problem, VarId};
@@ -20,7 +20,7 @@ use protocol_steps::{Event, EventFault, TakeList};
 use run_log::LogEvent;
 use std::alloc::Global;
 
-/// Plays the events of a log from a start, and gives their text from the event with number `from`
+/// PlaysEvent the events of a log from a start, and gives their text from the event with number `from`
 /// on. Events count from 1; with 0 the starts of all agents are written first.
 ///
 /// A tree of the start is a pseudotree of the problem, and linked; an error is at most 2^62. Stamps
@@ -93,7 +93,7 @@ fn write_starts(
     Ok(())
 }
 
-/// Plays the events of a log, and writes those with a number from `from` on.
+/// PlaysEvent the events of a log, and writes those with a number from `from` on.
 fn write_events(
     alloc: Global,
     text: &mut String,
@@ -103,7 +103,7 @@ fn write_events(
     log: &[LogEvent],
 ) -> Result<(), ReplayFault>
     requires { IsSomeCore core.old }
-    ensures { Tells names.now from log.now core.old
+    ensures { TellsEvent names.now from log.now core.old
         (string_bytes text.old) (string_bytes text.new) result }
 {
     let mut exchange = Exchange::new(alloc);
@@ -131,20 +131,20 @@ fn event_of(alloc: Global, event: &LogEvent) -> Result<Event, NoMemory>
     })
 }
 
-/// Plays an event of a log. `Some` exactly if it is not lawful, with its first fault.
+/// PlaysEvent an event of a log. `Some` exactly if it is not lawful, with its first fault.
 fn play(
     alloc: Global,
     core: &mut CoreState,
     event: &LogEvent,
 ) -> Result<Option<EventFault>, NoMemory>
     requires { IsSomeCore core.old }
-    ensures { IfOk result (Plays core.old event.now core.new) }
+    ensures { IfOk result (PlaysEvent core.old event.now core.new) }
 {
     let plain = event_of(alloc, event)?;
     core.happen(alloc, &plain)
 }
 
-/// Plays an event of a log, and writes it with this number. `Some` exactly if it is not lawful,
+/// PlaysEvent an event of a log, and writes it with this number. `Some` exactly if it is not lawful,
 /// with its first fault.
 fn tell(
     alloc: Global,
@@ -156,7 +156,7 @@ fn tell(
     event: &LogEvent,
 ) -> Result<Option<EventFault>, NoMemory>
     requires { IsSomeCore core.old }
-    ensures plays { IfOk result (Plays core.old event.now core.new) }
+    ensures plays { IfOk result (PlaysEvent core.old event.now core.new) }
     ensures tells { IfOk result (λ found. found ≡ None →
         TellsOne names.now core.old number event.now core.new
         (string_bytes text.old) (string_bytes text.new)) }

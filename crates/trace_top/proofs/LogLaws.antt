@@ -28,7 +28,7 @@ use Rattle.report_reader.specs.ReportReading.{report_read}
 use Rattle.solve_report.specs.declared.answer.Answer.{Answer}
 use Rattle.solve_report.specs.declared.answer.Answer.TheVariants as answers
 use Rattle.solve_printed.specs.declared.reading.LogRead.TheVariants.{Log, Refused as Unread}
-use Rattle.solve_printed.specs.LogReads.{IsLogOf, IsLogRead}
+use Rattle.solve_printed.specs.LogReads.{IsPrintedLog, IsLogRead}
 use Rattle.solve_printed.specs.Replaying.{log_up_to, IsFaultAnswer}
 use Rattle.solve_printed.proofs.LogLaws.{log-in}
 use Rattle.trace_top.specs.declared.answer.TraceAnswer.{TraceAnswer}
@@ -65,7 +65,7 @@ trace-read file before text asked error log answer of whole given is =
     }
 
 -- a certificate that gives no log
-log-refused : (file : TextFile) (before : ℕ) (text : List ℕ) (asked : Asked) (error : ℕ) (certificate : Option Certificate) (refusal : Answer) → IsLogOf before text error certificate (Unread refusal)
+log-refused : (file : TextFile) (before : ℕ) (text : List ℕ) (asked : Asked) (error : ℕ) (certificate : Option Certificate) (refusal : Answer) → IsPrintedLog before text error certificate (Unread refusal)
     → IsTraceOf file before text asked error certificate (Refused refusal)
 log-refused file before text asked error (Some (certificates.Log log)) refusal is = cc
 log-refused file before text asked error (Some (certificates.Tables utils)) refusal is = cc

@@ -26,7 +26,7 @@ use Rattle.minimised_problem.proofs.PlayedLaws.{run-lawful}
 use Rattle.log_check.proofs.DifferLaws.{fault_told}
 use Rattle.solve_report.specs.declared.answer.Answer.{Answer}
 use Rattle.solve_report.specs.declared.answer.Answer.TheVariants as answers
-use Rattle.solve_printed.specs.Replaying.{log_up_to, TellsFault}
+use Rattle.solve_printed.specs.Replaying.{log_up_to, TellsEventFault}
 use Rattle.solve_words.specs.declared.fault.WordFault.{WordFault}
 use Rattle.solve_words.specs.declared.fault.WordFault.TheVariants as words
 use Rattle.answer_io.specs.Input.{Input, Unread, Broken, TooLong, Whole}
@@ -67,7 +67,7 @@ module _ (file : TextFile) (from : ℕ) (net : Network) (log : List LogEvent) wh
   text_only : (text : List ℕ) → IsTrace file from net log (Traced text) → Traced text ≡ only
   text_only text is = ap Traced is.2 ∙ sym (ap traced_by (run-lawful 1 net is.0 log is.1).0)
 
-  fault_only : (at : ℕ) (fault : EventFault) (names : List (List ℕ)) → names ≡ file.names → TellsFault net (events_of log) at fault
+  fault_only : (at : ℕ) (fault : EventFault) (names : List (List ℕ)) → names ≡ file.names → TellsEventFault net (events_of log) at fault
       → Refused (answers.Verdict (No (differences.Event at fault)) names) ≡ only
   fault_only at fault names same first =
       let number : at ≡ 1 + first.0 = (let e = first.1 in omega (arith, e)) in

@@ -24,7 +24,7 @@ use Rattle.solve_report.specs.declared.answer.Answer.{Answer}
 use Rattle.solve_report.specs.declared.answer.Answer.TheVariants as answers
 use Rattle.solve_report.specs.AnswerText.{HasText}
 use Rattle.solve_printed.specs.CertificateLine.{certificate_line}
-use Rattle.solve_printed.specs.Replaying.{log_up_to, TellsFault}
+use Rattle.solve_printed.specs.Replaying.{log_up_to, TellsEventFault}
 use Rattle.solve_words.specs.Kinds.{number_of_words}
 use Rattle.solve_words.specs.declared.fault.WordFault.{WordFault}
 use Rattle.solve_words.specs.declared.fault.WordFault.TheVariants as words
@@ -40,7 +40,7 @@ use Rattle.trace_top.specs.declared.words.Asked.{Asked}
 -- text from the event with number `from` on, or the first event that is not lawful
 abbrev pub IsTrace : TextFile → ℕ → Network → List LogEvent → TraceAnswer → Type 0
 IsTrace file from net log (Traced text) = (end : Network) × (run net (events_of log) ≡ Some end) × (text ≡ trace_text file.names from net log)
-IsTrace file from net log (Refused (answers.Verdict (No (Unlawful at fault)) names)) = (names ≡ file.names) × TellsFault net (events_of log) at fault
+IsTrace file from net log (Refused (answers.Verdict (No (Unlawful at fault)) names)) = (names ≡ file.names) × TellsEventFault net (events_of log) at fault
 IsTrace file from net log answer = ⊥
 
 -- the answer to a report with this error and this certificate, whose text follows `before` lines: a

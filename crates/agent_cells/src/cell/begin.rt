@@ -5,7 +5,7 @@ ghost use Rattle.protocol_steps.specs.View.{made_of};
 ghost use Rattle.worker_laws.specs.Visits.{IsStarted};
 ghost use Rattle.agent_cells.specs.declared.fault.VisitFault.TheVariants.{NoMemory as no_memory};
 ghost use Rattle.agent_cells.specs.Links.{AreSameTails};
-ghost use Rattle.agent_cells.specs.State.{state_of, begun_in, fault_in, IsSound, IsCell, KeepsLinks};
+ghost use Rattle.agent_cells.specs.State.{state_of, begun_in, fault_in, IsSoundCell, IsCell, KeepsLinks};
 
 use super::Cell;
 use crate::deliver::deliver;
@@ -42,7 +42,7 @@ impl Cell {
 
     /// Starts the machine, and sends its parcels on the links.
     fn try_begin(&mut self) -> Result<(), NoMemory>
-        requires cell { IsSound false self.old.fault (state_of (λ b. meaning b) self.old) }
+        requires cell { IsSoundCell false self.old.fault (state_of (λ b. meaning b) self.old) }
         ensures tails { AreSameTails self.old.tails.items self.new.tails.items }
         ensures heads { self.new.heads ≡ self.old.heads }
         ensures me { self.new.me ≡ self.old.me }

@@ -6,7 +6,7 @@ use Rattle.agent_workers.specs.Turns.{visit_limit}
 use Rattle.agent_workers.specs.Broken.{HasGoneOn, AreBrokenOff}
 use Rattle.agent_workers.proofs.BreakLaws.{err_on, turn_broken}
 use Rattle.agent_workers.proofs.PlayLaws.{turn_none, turn_more, turn_past, turn_ready, ready_at, failed_set, failed_on}
-use Rattle.agent_workers.specs.Watched.{AreUnmarked}
+use Rattle.agent_workers.specs.Watched.{AreCellsUnmarked}
 use Rattle.agent_workers.proofs.TurnLaws.{waiting_none, waiting_more, waiting_past, passing_none, passing_past, passing_more}
 use Rattle.agent_workers.proofs.play.visit_waiting.Goals as goal
 
@@ -44,7 +44,7 @@ returns-clause-ok g c = let size = c.loop-place.invariant.0.ready.size in turn_p
 pub returns-clause-turn : goal.returns-clause-turn
 returns-clause-turn g c =
     (passing_past (λ b. (goal.Machine-dyn g (b.vtable, b.value)).meaning b.value) c.args.watch.now.waits c.loop-place.watch.waits c.loop-place.from (length c.args.cells.now) c.args.cells.now c.loop-place.cells c.loop-place.invariant.1 c.loop-place.invariant.0.ready.size
-    (subst (λ n. AreUnmarked c.loop-place.watch.waits c.loop-place.from n) c.loop-place.invariant.0.ready.size c.in_default.ensures.passed) c.loop-place.invariant.0.rest c.loop-place.invariant.3).passed
+    (subst (λ n. AreCellsUnmarked c.loop-place.watch.waits c.loop-place.from n) c.loop-place.invariant.0.ready.size c.in_default.ensures.passed) c.loop-place.invariant.0.rest c.loop-place.invariant.3).passed
 
 pub returns-clause-marks : goal.returns-clause-marks
 returns-clause-marks g c = waiting_past (λ b. (goal.Machine-dyn g (b.vtable, b.value)).meaning b.value) c.loop-place.watch.waits c.loop-place.from (length c.args.cells.now) c.args.cells.now c.loop-place.cells c.loop-place.invariant.0.ready.size c.loop-place.invariant.0.rest c.loop-place.invariant.2

@@ -5,19 +5,19 @@ use Rattle.agent_workers.specs.Shared.{IsSharedRound}
 use Rattle.std.specs.Prelude.{OnOk, IfErr}
 use Rattle.agent_cells.specs.State.{fault_in}
 use Rattle.agent_cells.proofs.CellLaws.{written}
-use Rattle.agent_workers.specs.Joined.{EachIs, EachBecomes, HasBegun, IsSameCell, IsJoined}
+use Rattle.agent_workers.specs.Joined.{EachIs, EachBecomes, HasBegun, IsSameCell, AreCellsJoined}
 use Rattle.agent_workers.specs.Turns.{SomeFailed}
 use Rattle.agent_workers.proofs.ListLaws.{carry}
 use Rattle.agent_workers.proofs.rounds.round.Goals as goal
 
 pub play_round-requires-clause-joined : goal.play_round-requires-clause-joined
-play_round-requires-clause-joined g c κs within = subst (IsJoined (λ b. (goal.Machine-dyn g (b.vtable, b.value)).meaning b.value) c.args.nodes) (sym c.as_mut_slice.ensures.value) c.requires.joined
+play_round-requires-clause-joined g c κs within = subst (AreCellsJoined (λ b. (goal.Machine-dyn g (b.vtable, b.value)).meaning b.value) c.args.nodes) (sym c.as_mut_slice.ensures.value) c.requires.joined
 
 pub play_round-requires-clause-begun : goal.play_round-requires-clause-begun
 play_round-requires-clause-begun g c κs within = subst (EachIs (HasBegun (λ b. (goal.Machine-dyn g (b.vtable, b.value)).meaning b.value))) (sym c.as_mut_slice.ensures.value) c.requires.begun
 
 pub returns-clause-joined : goal.returns-clause-joined
-returns-clause-joined g c = subst (IsJoined (λ b. (goal.Machine-dyn g (b.vtable, b.value)).meaning b.value) c.args.nodes) (sym (written _ c.args.cells.now.items c.play_round.new.cells c.as_mut_slice.result.now c.args.cells.now.ok.0 c.play_round.ensures.same.size c.as_mut_slice.ensures.value)) c.play_round.ensures.joined
+returns-clause-joined g c = subst (AreCellsJoined (λ b. (goal.Machine-dyn g (b.vtable, b.value)).meaning b.value) c.args.nodes) (sym (written _ c.args.cells.now.items c.play_round.new.cells c.as_mut_slice.result.now c.args.cells.now.ok.0 c.play_round.ensures.same.size c.as_mut_slice.ensures.value)) c.play_round.ensures.joined
 
 pub returns-clause-begun : goal.returns-clause-begun
 returns-clause-begun g c = subst (EachIs (HasBegun (λ b. (goal.Machine-dyn g (b.vtable, b.value)).meaning b.value))) (sym (written _ c.args.cells.now.items c.play_round.new.cells c.as_mut_slice.result.now c.args.cells.now.ok.0 c.play_round.ensures.same.size c.as_mut_slice.ensures.value)) c.play_round.ensures.begun

@@ -4,11 +4,11 @@ use Rattle.agent_cells.specs.State.{begun_in, IsCell}
 use Rattle.agent_cells.proofs.CellLaws.{written}
 use Rattle.agent_workers.specs.Shared.{HaveRunShared}
 use Rattle.agent_workers.proofs.ListLaws.{carry}
-use Rattle.agent_workers.specs.Joined.{EachIs, IsJoined}
+use Rattle.agent_workers.specs.Joined.{EachIs, AreCellsJoined}
 use Rattle.agent_workers.proofs.runs.run.Goals as goal
 
 pub run_all-requires-clause-joined : goal.run_all-requires-clause-joined
-run_all-requires-clause-joined g c κs within = subst (IsJoined (λ b. (goal.Machine-dyn g (b.vtable, b.value)).meaning b.value) 1) (sym c.as_mut_slice.ensures.value) c.requires.joined
+run_all-requires-clause-joined g c κs within = subst (AreCellsJoined (λ b. (goal.Machine-dyn g (b.vtable, b.value)).meaning b.value) 1) (sym c.as_mut_slice.ensures.value) c.requires.joined
 
 pub run_all-requires-clause-sound : goal.run_all-requires-clause-sound
 run_all-requires-clause-sound g c κs within = subst (EachIs (λ x. IsCell (λ b. (goal.Machine-dyn g (b.vtable, b.value)).meaning b.value) x)) (sym c.as_mut_slice.ensures.value) c.requires.sound

@@ -9,7 +9,7 @@ use Rattle.bound_search.specs.declared.progress.Progress.{Progress}
 use Rattle.bound_search.proofs.RowLaws.{values_of, within_set, agree_set, agree_more, agree_less, row_agrees, sum_left}
 use Rattle.bound_search.proofs.EstimateLaws.{estimate_agrees}
 use Rattle.bound_search.proofs.DescentLaws.{visiting_start, visiting_next, visiting_end, descent_taken, standing_taken, standing_opened, standing_stopped, few_left, entry_is}
-use Rattle.bound_search.specs.Visits.{Visits}
+use Rattle.bound_search.specs.Visits.{VisitsFrom}
 use Rattle.bound_search.proofs.VisitLaws.{visits_taken, visits_start, visits_next, visits_end}
 use Rattle.bound_search.proofs.descent.+descend.Goals as goal
 
@@ -35,8 +35,8 @@ returns-then-depth-sizes-clause-visits t c =
     let is : c.args.least ≡ estimate (length c.args.sizes.now) c.args.buckets.now value = c.requires.least ∙ ap (λ (n : ℕ). estimate n c.args.buckets.now value) c.if-depth-sizes.true in
     let old = far_of c.args.progress.now in
     let new = far_of c.take.new.progress in
-    subst (λ (n : ℕ). Visits (drop n c.args.sizes.now) c.args.buckets.now c.args.rules n value old new) (sym c.if-depth-sizes.true)
-    (subst (λ (left : List ℕ). Visits left c.args.buckets.now c.args.rules (length c.args.sizes.now) value old new) (sym (drop_all (length c.args.sizes.now) c.args.sizes.now (omega arith)))
+    subst (λ (n : ℕ). VisitsFrom (drop n c.args.sizes.now) c.args.buckets.now c.args.rules n value old new) (sym c.if-depth-sizes.true)
+    (subst (λ (left : List ℕ). VisitsFrom left c.args.buckets.now c.args.rules (length c.args.sizes.now) value old new) (sym (drop_all (length c.args.sizes.now) c.args.sizes.now (omega arith)))
     (visits_taken c.args.sizes.now c.args.buckets.now c.args.rules c.requires.grounds c.args.least value c.args.progress.now c.take.new.progress (values_of c.args.sizes.now c.args.values.now c.requires.within) is c.take.ensures.best c.take.ensures.nodes c.take.ensures.lower c.take.ensures.spent))
 
 pub bounds-values-depth : goal.bounds-values-depth

@@ -3,10 +3,10 @@ use Rattle.std.specs.List.{All, filter}
 use Rattle.std.proofs.lemmas.List.Elements.{All-cons}
 use Rattle.dcop_base.specs.Limits.{joined_limit}
 use Rattle.dcop_base.specs.Table.{CostTable, has}
-use Rattle.bucket_bounds.specs.Bounds.{AreBounds, kept_cells}
+use Rattle.bucket_bounds.specs.Bounds.{AreBucketBounds, kept_cells}
 use Rattle.bucket_bounds.specs.Exact.{AreExactUnparted}
 use Rattle.bucket_bounds.specs.Joining.{AreUncapped}
-use Rattle.bucket_bounds.specs.Made.{IsItem, IsBound, AreMade}
+use Rattle.bucket_bounds.specs.Made.{IsItem, IsBoundTable, AreMade}
 use Rattle.bucket_bounds.specs.MiniBuckets.{AreMiniBuckets}
 use Rattle.bucket_bounds.specs.Parting.{IsPartedDuly, AreReplacedDuly}
 use Rattle.bucket_bounds.specs.declared.bucket.Bucket.{Bucket}
@@ -36,7 +36,7 @@ next_bucket-requires-clause-bounds c =
     let bs : List Bucket = reverse c.loop-place.last_first.items in
     let chain = chain_at sizes depths c.min-widest.result c.args.cells c.loop-place.room c.loop-place.place (p + 1) bs c.loop-place.bounds.items (omega (arith, positive)) c.loop-place.invariant.0 in
     let within = chain.within in
-    subst (λ (ts : List CostTable). All (IsBound sizes (p + 1)) ts) (sym c.as_slice.ensures.value)
+    subst (λ (ts : List CostTable). All (IsBoundTable sizes (p + 1)) ts) (sym c.as_slice.ensures.value)
     (next_bounds_are sizes depths c.min-widest.result c.args.cells c.loop-place.room p bs c.loop-place.bounds.items c.index-depths-place.result c.requires.depths (omega (arith, within)) c.index-depths-place.is chain)
 
 pub next_bucket-requires-clause-capped : goal.next_bucket-requires-clause-capped
@@ -84,7 +84,7 @@ returns-clause-bounds c =
     let bs : List Bucket = reverse c.loop-place.last_first.items in
     let end = chain_end sizes depths c.min-widest.result c.args.cells c.loop-place.room c.loop-place.place bs c.loop-place.bounds.items c.loop-place-test.false c.loop-place.invariant.0 in
     let is = turned_round c.loop-place.last_first.items c.reverse.new.self c.as_mut_slice.result.now c.from_vec.result c.loop-place.last_first.len c.as_mut_slice.ensures.value c.reverse.ensures.after c.as_mut_slice.ensures.len c.from_vec.ensures in
-    subst (λ (bs : List Bucket). AreBounds sizes depths bs) (sym is) (are_bounds sizes depths bs end.0 c.requires.depths.many end.1)
+    subst (λ (bs : List Bucket). AreBucketBounds sizes depths bs) (sym is) (are_bounds sizes depths bs end.0 c.requires.depths.many end.1)
 
 pub returns-clause-exact : goal.returns-clause-exact
 returns-clause-exact c =

@@ -2,7 +2,7 @@ use Rattle.std.proofs.Common.{◌<◌, ℕ, List, length, get_or, sym, ap, subst
 use Rattle.std.specs.List.{All}
 use Rattle.dcop_base.specs.Table.{CostTable}
 use Rattle.shared_costs.specs.Tables.{IsTableOver}
-use Rattle.bucket_bounds.specs.Groups.{AddsTo, Fits}
+use Rattle.bucket_bounds.specs.Groups.{AddsTo, FitsLimit}
 use Rattle.bucket_bounds.specs.Parting.{IsTooWideFor}
 use Rattle.bucket_bounds.specs.declared.group.Group.{Group}
 use Rattle.bucket_bounds.proofs.GroupLaws.{groups_opened, groups_widened, written}
@@ -24,10 +24,10 @@ loop-table-preserved c =
           let old : Group = w.index-as_mut_slice-place.result in
           let place = w.in-Some.place in
           let found = w.index-as_mut_slice-place.is ∙ ap (λ (gs : List Group). get_or gs place old) w.as_mut_slice.ensures.value in
-          let fits : Fits sizes t.scope c.args.limit old =
-          subst (λ (g : Group). Fits sizes t.scope c.args.limit g) (sym found)
-          (subst (λ (gs : List Group). Fits sizes t.scope c.args.limit (get_or gs place old)) c.as_slice.ensures.value
-          (subst (λ (vs : List ℕ). Fits sizes vs c.args.limit (get_or c.as_slice.result.now place old)) scope (w.in-Some.ensures.fits.1 old))) in
+          let fits : FitsLimit sizes t.scope c.args.limit old =
+          subst (λ (g : Group). FitsLimit sizes t.scope c.args.limit g) (sym found)
+          (subst (λ (gs : List Group). FitsLimit sizes t.scope c.args.limit (get_or gs place old)) c.as_slice.ensures.value
+          (subst (λ (vs : List ℕ). FitsLimit sizes vs c.args.limit (get_or c.as_slice.result.now place old)) scope (w.in-Some.ensures.fits.1 old))) in
           let inside : place < length groups = subst (λ (gs : List Group). place < length gs) c.as_slice.ensures.value w.in-Some.ensures.fits.0 in
           let new : Group = w.add_to.new.group in
           let adds : AddsTo sizes old t new = subst (λ (g : Group). AddsTo sizes g t new) (sym w.index-as_mut_slice-place.is) w.in_ok-add_to-in-Some.ensures in

@@ -8,7 +8,7 @@ use Rattle.shared_costs.specs.Tables.{IsTableOver}
 use Rattle.bucket_bounds.specs.Groups.{IsGroup, AreGroups}
 use Rattle.bucket_bounds.specs.Parting.{AreTooWide, ArePartedDuly}
 use Rattle.bucket_bounds.specs.Joining.{AreUncapped}
-use Rattle.bucket_bounds.specs.Parts.{IsJoinOf, AreParts}
+use Rattle.bucket_bounds.specs.Parts.{IsJoinOf, AreGroupsJoined}
 use Rattle.bucket_bounds.specs.declared.group.Group.{Group}
 use Rattle.bucket_bounds.proofs.GroupLaws.{wider_groups}
 use Rattle.bucket_bounds.proofs.PartLaws.{items_are, groups_uncapped, joined_are, parts_are, parted_is}
@@ -40,7 +40,7 @@ shared_tables-requires-clause-tables c =
 
 pub returns-clause-parts : goal.returns-clause-parts
 returns-clause-parts c =
-    IfOk-weaker c.shared_tables.result (λ parts. IsShare c.args.sizes.now c.args.var c.in_ok-joined.joined.items parts.items) (λ parts. AreParts c.args.sizes.now c.args.limit c.args.var (c.args.tables.now ++ c.args.came.now) parts.items)
+    IfOk-weaker c.shared_tables.result (λ parts. IsShare c.args.sizes.now c.args.var c.in_ok-joined.joined.items parts.items) (λ parts. AreGroupsJoined c.args.sizes.now c.args.limit c.args.var (c.args.tables.now ++ c.args.came.now) parts.items)
     (λ parts shared. parts_are c.args.sizes.now c.args.var c.args.tables.now c.args.came.now c.new-items.result.items c.put_by_cells.new.among.items c.put_by_cells-2.new.among.items
     c.new-items.ensures.items c.in_ok-put_by_cells.ensures.put c.in_ok-put_by_cells-2.ensures.put c.requires.tables c.requires.came c.requires.capped
     c.args.limit c.in_ok-groups.groups.items (subst (λ (ts : List CostTable). AreGroups c.args.sizes.now c.args.limit ts c.in_ok-groups.groups.items) c.as_slice.ensures.value c.in_ok-groups.ensures.groups)

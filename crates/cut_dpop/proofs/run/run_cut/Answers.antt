@@ -2,7 +2,7 @@ use Rattle.std.proofs.Common.{◌≡◌, ℕ, ◌<◌, ◌≤◌, List, length, 
 use Rattle.std.specs.List.{All}
 use Rattle.dcop_base.specs.Problem.{Dcop}
 use Rattle.dcop_base.specs.Limits.{turn_limit}
-use Rattle.cut_dpop.specs.End.{IsRefused}
+use Rattle.cut_dpop.specs.End.{IsCutRefused}
 use Rattle.cut_dpop.proofs.EndLaws.{few-turns, may-cut, copy-narrow, few-messages, cut-end, cut-refused, passed-on}
 use Rattle.cut_dpop.proofs.run.run_cut.Goals as goal
 
@@ -20,7 +20,7 @@ turns_of-requires-clause-cut g c =
 pub returns-in_err-turns-clause-refused : goal.returns-in_err-turns-clause-refused
 returns-in_err-turns-clause-refused g c =
     let refused = cut-refused c.args.problem.now c.args.tree.now c.args.limit c.args.keep c.in_ok-cut.cut c.in_err-turns.field-0.0 c.cut_sets_are_one.ensures c.problem_is_whole.ensures c.requires.tree.pseudotree c.requires.limit c.in_ok-cut.ensures c.in_err-turns.ensures.refused in
-    passed-on c.from_residual-in_err-turns.result c.in_err-turns.field-0.0 (IsRefused c.args.problem.now c.args.tree.now.paths c.args.limit c.args.keep) c.from_residual-in_err-turns.ensures.1 refused
+    passed-on c.from_residual-in_err-turns.result c.in_err-turns.field-0.0 (IsCutRefused c.args.problem.now c.args.tree.now.paths c.args.limit c.args.keep) c.from_residual-in_err-turns.ensures.1 refused
 
 pub play_turns-requires-clause-cut : goal.play_turns-requires-clause-cut
 play_turns-requires-clause-cut g c κs within =

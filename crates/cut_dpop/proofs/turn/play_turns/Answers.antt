@@ -3,7 +3,7 @@ use Rattle.certificate_text.specs.declared.certificate.Turn.{Turn}
 use Rattle.cut_dpop.specs.Start.{paths_in}
 use Rattle.cut_dpop.proofs.BestLaws.{some-turn, best-first, best-take, best-keep}
 use Rattle.cut_dpop.proofs.KeptLaws.{kept-none, kept-next}
-use Rattle.cut_dpop.specs.Kept.{AreKept}
+use Rattle.cut_dpop.specs.Kept.{AreTurnsKept}
 use Rattle.cut_dpop.specs.Played.{IsBestOf}
 use Rattle.cut_dpop.proofs.turn.play_turns.Goals as goal
 use Rattle.cut_dpop.proofs.turn.play_turns.Goals.{then-played-best, else-played-best}
@@ -52,5 +52,5 @@ returns-clause-kept g c =
     let end = c.loop-number.auto.number-end one in
     let past = c.loop-number-test.false in
     let all : c.loop-number.number ≡ c.args.turns = omega (arith, end, past) in
-    subst (λ (ts : List Turn). AreKept c.args.keep c.args.problem.now (paths_in c.args.start.now) c.args.cut.now c.args.turns ts) (sym c.from_vec.ensures)
-    (subst (λ (n : ℕ). AreKept c.args.keep c.args.problem.now (paths_in c.args.start.now) c.args.cut.now n c.loop-number.kept.items) all c.loop-number.invariant.1)
+    subst (λ (ts : List Turn). AreTurnsKept c.args.keep c.args.problem.now (paths_in c.args.start.now) c.args.cut.now c.args.turns ts) (sym c.from_vec.ensures)
+    (subst (λ (n : ℕ). AreTurnsKept c.args.keep c.args.problem.now (paths_in c.args.start.now) c.args.cut.now n c.loop-number.kept.items) all c.loop-number.invariant.1)

@@ -5,7 +5,7 @@ use Rattle.problem_text.specs.declared.edited.Edited.{Edited}
 use Rattle.edit_text.specs.declared.kind.EditKind.TheVariants as kinds
 use Rattle.solve_edit.specs.Editing.{line_behind}
 use Rattle.solve_edit.specs.Running.{refused, AreLinesTold}
-use Rattle.solve_edit.specs.Steps.{IsStep}
+use Rattle.solve_edit.specs.Steps.{IsLineStep}
 use Rattle.solve_edit.proofs.StepLaws.{run_more, run_stopped, run_over, run_ended, run_further}
 use Rattle.solve_edit.proofs.running.run_lines.Goals as goal
 
@@ -21,7 +21,7 @@ returns-in-Some-next_plain_line g c =
     let further : Plain = record { number = c.in-Some-next_plain_line.further.number; words = words c.in-Some-next_plain_line.further.text.now } in
     run_further c.args.session.now.state (line_behind c.args.before c.args.text.now) (plain_lines (c.args.before + 1) c.args.text.now) c.loop-line.session.state c.step.new.session.state line further (plain_lines (c.in-Some.line.number + 1) c.in-Some.line.after.now) (plain_lines (c.in-Some-next_plain_line.further.number + 1) c.in-Some-next_plain_line.further.after.now) (plain_lines c.loop-line.number c.loop-line.rest.now)
     c.loop-line.answers.items c.step.new.answers.items c.loop-line.invariant.1 c.in-Some.ensures.line
-    (subst (λ (b : Bool). IsStep line c.loop-line.session.state c.step.new.session.state c.loop-line.answers.items c.step.new.answers.items (Ok b)) c.if-branch.true c.in_ok-step.ensures) c.in-Some-next_plain_line.ensures.line
+    (subst (λ (b : Bool). IsLineStep line c.loop-line.session.state c.step.new.session.state c.loop-line.answers.items c.step.new.answers.items (Ok b)) c.if-branch.true c.in_ok-step.ensures) c.in-Some-next_plain_line.ensures.line
 
 pub returns-in-None : goal.returns-in-None
 returns-in-None g c =
@@ -29,7 +29,7 @@ returns-in-None g c =
     subst (λ (es : List Edited). AreLinesTold c.args.session.now.state (line_behind c.args.before c.args.text.now) (plain_lines (c.args.before + 1) c.args.text.now) (Ok (record { answers = es; file = c.step.new.session.state.file }))) (sym c.from_vec.ensures)
     (run_ended c.args.session.now.state (line_behind c.args.before c.args.text.now) (plain_lines (c.args.before + 1) c.args.text.now) c.loop-line.session.state c.step.new.session.state line (plain_lines (c.in-Some.line.number + 1) c.in-Some.line.after.now) (plain_lines c.loop-line.number c.loop-line.rest.now)
     c.loop-line.answers.items c.step.new.answers.items c.loop-line.invariant.1 c.in-Some.ensures.line
-    (subst (λ (b : Bool). IsStep line c.loop-line.session.state c.step.new.session.state c.loop-line.answers.items c.step.new.answers.items (Ok b)) c.if-branch.true c.in_ok-step.ensures) c.in-None.ensures.line)
+    (subst (λ (b : Bool). IsLineStep line c.loop-line.session.state c.step.new.session.state c.loop-line.answers.items c.step.new.answers.items (Ok b)) c.if-branch.true c.in_ok-step.ensures) c.in-None.ensures.line)
 
 pub loop-line-preserved : goal.loop-line-preserved
 loop-line-preserved g c =
@@ -39,7 +39,7 @@ loop-line-preserved g c =
       omega (arith, low, step),
       run_more c.args.session.now.state (line_behind c.args.before c.args.text.now) (plain_lines (c.args.before + 1) c.args.text.now) c.loop-line.session.state c.step.new.session.state line (plain_lines (c.in-Some.line.number + 1) c.in-Some.line.after.now) (plain_lines c.loop-line.number c.loop-line.rest.now)
           c.loop-line.answers.items c.step.new.answers.items c.loop-line.invariant.1 c.in-Some.ensures.line
-          (subst (λ (b : Bool). IsStep line c.loop-line.session.state c.step.new.session.state c.loop-line.answers.items c.step.new.answers.items (Ok b)) c.if-branch.false c.in_ok-step.ensures),
+          (subst (λ (b : Bool). IsLineStep line c.loop-line.session.state c.step.new.session.state c.loop-line.answers.items c.step.new.answers.items (Ok b)) c.if-branch.false c.in_ok-step.ensures),
     )
 
 pub returns : goal.returns

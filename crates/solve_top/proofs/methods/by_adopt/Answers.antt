@@ -3,7 +3,7 @@ use Rattle.dcop_base.specs.Whole.{IsProblem}
 use Rattle.problem_text.specs.File.{TextFile, IsFile}
 use Rattle.answer_io.specs.InputTold.{told_of}
 use Rattle.solve_top.specs.declared.task.FileTask.TheVariants as tasks
-use Rattle.solve_top.specs.Nodes.{IsFaultNamed, TellsFault}
+use Rattle.solve_top.specs.Nodes.{IsFaultNamed, TellsNodeFault}
 use Rattle.solve_top.proofs.LinkAnswerLaws.{fault_belongs, fault_named, fault_tells}
 use Rattle.solve_top.proofs.LinklessLaws.{file-linkless, linkless-tells}
 use Rattle.solve_top.proofs.methods.by_adopt.Goals as goal
@@ -24,8 +24,8 @@ pub returns-in-Err-clause-belongs : goal.returns-in-Err-clause-belongs
 returns-in-Err-clause-belongs g c =
     let whole : IsProblem c.args.file.problem = subst (λ (f : TextFile). IsProblem f.problem) c.file.view_is c.problem_is_whole.ensures in
     fault_belongs c.args.file (tasks.Adopt c.args.asked.error c.args.asked.budget c.args.asked.certified) _ _ _ _ _ c.in-Err.fault c.fault_told.result whole c.in-Err.ensures.links
-    (subst (λ (f : TextFile). TellsFault f.names c.in-Err.fault c.fault_told.result) c.file.view_is c.fault_told.ensures.told)
+    (subst (λ (f : TextFile). TellsNodeFault f.names c.in-Err.fault c.fault_told.result) c.file.view_is c.fault_told.ensures.told)
 
 pub returns-in-Err-clause-links : goal.returns-in-Err-clause-links
 returns-in-Err-clause-links g c = fault_tells c.args.file (tasks.Adopt c.args.asked.error c.args.asked.budget c.args.asked.certified) _ _ _ _ c.in-Err.fault c.fault_told.result c.in-Err.ensures.links
-    (subst (λ (f : TextFile). TellsFault f.names c.in-Err.fault c.fault_told.result) c.file.view_is c.fault_told.ensures.told)
+    (subst (λ (f : TextFile). TellsNodeFault f.names c.in-Err.fault c.fault_told.result) c.file.view_is c.fault_told.ensures.told)

@@ -7,7 +7,7 @@ use Rattle.agent_cells.proofs.CellLaws.{written}
 use Rattle.agent_workers.proofs.JoinLaws.{each_stays_then}
 use Rattle.node_exchange.specs.Passings.{SamePassing, AreAcross, NothingCame}
 use Rattle.node_exchange.specs.Faults.{IsByteFault}
-use Rattle.tcp_links.specs.Faults.{IsNoDifference}
+use Rattle.tcp_links.specs.Faults.{IsOtherFault}
 use Rattle.tcp_links.specs.Over.{IsExchangeFault}
 use Rattle.tcp_links.proofs.ExchangeLaws.{twice_written, long_written, no_difference, nothing_came, are_across, can_drain, can_feed, still_taken, fault_on, woven_on, idle_on, caught_up, exchange_on, held_on, has_exchanged, idle_slices, emptied_slices, can_drain_slices, sent_slices, taken_slices, links_slices, links_of, sent_where_still, taken_where_still, drained_slices, can_feed_slices, fed_slices}
 use Rattle.tcp_links.proofs.exchange.exchange.Goals as goal
@@ -50,7 +50,7 @@ returns-in-Err-clause-honest g c =
     let long = drained.counted ∙ sym c.requires.ready.idle.size ∙ ap length (sym c.as_mut_slice-2.ensures.value) in
     let here = c.as_mut_slice-3.ensures.value ∙ written _ c.args.plan.now.passings.items c.drain_all.new.passings c.as_mut_slice-2.result.now c.args.plan.now.passings.ok.0 long c.as_mut_slice-2.ensures.value in
     let none = subst NothingCame (sym here) (nothing_came (λ b. (goal.Machine-dyn g (b.vtable, b.value)).meaning b.value) c.args.plan.now.nodes c.args.plan.now.agents c.args.plan.now.kept.items c.args.plan.now.ends.items c.drain_all.new.ends c.args.cells.now c.drain_all.new.cells c.drain_all.new.passings c.requires.woven c.drain_all.ensures.quiet drained) in
-    (tt, subst IsNoDifference (sym c.node_fault.ensures) (no_difference c.args.round c.in-Err.fault (c.in-Err.ensures.honest honest none).1))
+    (tt, subst IsOtherFault (sym c.node_fault.ensures) (no_difference c.args.round c.in-Err.fault (c.in-Err.ensures.honest honest none).1))
 
 pub feed_all-requires-clause-sizes : goal.feed_all-requires-clause-sizes
 feed_all-requires-clause-sizes g c =

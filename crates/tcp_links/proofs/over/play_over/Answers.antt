@@ -2,7 +2,7 @@ use Rattle.std.proofs.Common.{ℕ, ◌+◌, ◌∙◌, Option, refl, sym, subst,
 use Rattle.worker_laws.specs.OneNode.{home}
 use Rattle.agent_workers.specs.Joined.{states_of}
 use Rattle.agent_workers.proofs.RunLaws.{ended_states}
-use Rattle.tcp_links.specs.Faults.{IsNoDifference}
+use Rattle.tcp_links.specs.Faults.{IsOtherFault}
 use Rattle.tcp_links.specs.Over.{IsRoundOver}
 use Rattle.tcp_links.specs.Ends.{IsFaultOver}
 use Rattle.tcp_links.proofs.OverLaws.{err_on, nothing_on, cause_on, joined_over, joined_back, over_self, over_then, none_over, all_over, ended_to, broken_to, fault_over, due_on, busy_on, rest_on, idle_on, broken_on}
@@ -65,7 +65,7 @@ pub returns-in_err-taken-clause-differs : goal.returns-in_err-taken-clause-diffe
 returns-in_err-taken-clause-differs g c = err_on c.from_residual.result _ (IsFaultOver c.args.plan.now.nodes (home c.args.plan.now.nodes c.args.plan.now.agents) c.args.budget c.args.plan.now.kept.items (states_of (λ b. (goal.Machine-dyn g (b.vtable, b.value)).meaning b.value) c.args.cells.now)) c.from_residual.ensures.1 (fault_over (λ b. (goal.Machine-dyn g (b.vtable, b.value)).meaning b.value) c.args.budget c.loop-round.round c.args.plan.now.kept.items (states_of (λ b. (goal.Machine-dyn g (b.vtable, b.value)).meaning b.value) c.args.cells.now) c.args.plan.now c.loop-round.plan c.loop-round.cells c.loop-round.invariant.over c.loop-round.invariant.played _ c.in_err-taken.ensures.differs)
 
 pub returns-in_err-taken-clause-honest : goal.returns-in_err-taken-clause-honest
-returns-in_err-taken-clause-honest g c = λ h held. (nothing_on c.from_residual.result _ _ c.from_residual.ensures.1, err_on c.from_residual.result _ IsNoDifference c.from_residual.ensures.1 (c.in_err-taken.ensures.honest (c.loop-round.invariant.honest h held)).1)
+returns-in_err-taken-clause-honest g c = λ h held. (nothing_on c.from_residual.result _ _ c.from_residual.ensures.1, err_on c.from_residual.result _ IsOtherFault c.from_residual.ensures.1 (c.in_err-taken.ensures.honest (c.loop-round.invariant.honest h held)).1)
 
 pub returns-in_default-clause-size : goal.returns-in_default-clause-size
 returns-in_default-clause-size g c = c.round_over.ensures.size ∙ c.loop-round.invariant.size

@@ -2,7 +2,7 @@ use Rattle.std.proofs.Common.{◌∙◌, refl, subst, arith}
 use Rattle.agent_workers.specs.Turns.{SomeFailed}
 use Rattle.agent_workers.proofs.RoundLaws.{sound_from, begun_still}
 use Rattle.agent_workers.proofs.RunLaws.{fine_still}
-use Rattle.tcp_links.specs.Faults.{IsNoDifference}
+use Rattle.tcp_links.specs.Faults.{IsOtherFault}
 use Rattle.tcp_links.specs.Over.{IsExchangeFault}
 use Rattle.tcp_links.proofs.OverLaws.{err_on, nothing_on, cause_on, joined_quiet, joined_over, joined_back, fine_quiet, over_played, over_forgot, round_made, broken_made}
 use Rattle.tcp_links.proofs.SharedLaws.{shared_over}
@@ -39,7 +39,7 @@ pub returns-in_err-exchange-clause-differs : goal.returns-in_err-exchange-clause
 returns-in_err-exchange-clause-differs g c = err_on c.from_residual.result _ (IsExchangeFault (λ b. (goal.Machine-dyn g (b.vtable, b.value)).meaning b.value) c.args.round c.args.plan.now c.args.cells.now) c.from_residual.ensures.1 c.in_err-exchange.ensures.differs
 
 pub returns-in_err-exchange-clause-honest : goal.returns-in_err-exchange-clause-honest
-returns-in_err-exchange-clause-honest g c = λ h. (nothing_on c.from_residual.result _ _ c.from_residual.ensures.1, err_on c.from_residual.result _ IsNoDifference c.from_residual.ensures.1 (c.in_err-exchange.ensures.honest h).1)
+returns-in_err-exchange-clause-honest g c = λ h. (nothing_on c.from_residual.result _ _ c.from_residual.ensures.1, err_on c.from_residual.result _ IsOtherFault c.from_residual.ensures.1 (c.in_err-exchange.ensures.honest h).1)
 
 pub returns-in-Ok-clause-joined : goal.returns-in-Ok-clause-joined
 returns-in-Ok-clause-joined g c = joined_back (λ b. (goal.Machine-dyn g (b.vtable, b.value)).meaning b.value) c.args.plan.now c.exchange.new.plan c.play_round.new.cells c.in_ok-exchange.ensures.exchanged.over.nodes c.play_round.ensures.joined

@@ -3,7 +3,7 @@ use Rattle.std.specs.Prelude.{IfOk, OnOk, IfErr}
 use Rattle.worker_laws.specs.CellRuns.{MakesARun}
 use Rattle.agent_cells.specs.State.{begun_in, IsCell}
 use Rattle.agent_cells.proofs.CellLaws.{written}
-use Rattle.agent_workers.specs.Joined.{states_of, EachIs, IsJoined}
+use Rattle.agent_workers.specs.Joined.{states_of, EachIs, AreCellsJoined}
 use Rattle.agent_workers.specs.Run.{views_of, AreDulyPlayed, RestsAtStill}
 use Rattle.agent_workers.proofs.ListLaws.{carry}
 use Rattle.tcp_links.specs.Linked.{AreLinkedOver}
@@ -19,7 +19,7 @@ pub run_over-requires-clause-plan : goal.run_over-requires-clause-plan
 run_over-requires-clause-plan g c κs within = same_plan c.args.plan.now c.prepare.new.plan c.requires.plan c.prepare.ensures.same.kept c.prepare.ensures.same.ends c.prepare.ensures.same.agents c.prepare.ensures.same.nodes c.prepare.ensures.same.wires
 
 pub run_over-requires-clause-joined : goal.run_over-requires-clause-joined
-run_over-requires-clause-joined g c κs within = subst (λ n. IsJoined (λ b. (goal.Machine-dyn g (b.vtable, b.value)).meaning b.value) n c.as_mut_slice.result.now) (sym c.prepare.ensures.same.nodes) (subst (IsJoined (λ b. (goal.Machine-dyn g (b.vtable, b.value)).meaning b.value) c.args.plan.now.nodes) (sym c.as_mut_slice.ensures.value) c.requires.joined)
+run_over-requires-clause-joined g c κs within = subst (λ n. AreCellsJoined (λ b. (goal.Machine-dyn g (b.vtable, b.value)).meaning b.value) n c.as_mut_slice.result.now) (sym c.prepare.ensures.same.nodes) (subst (AreCellsJoined (λ b. (goal.Machine-dyn g (b.vtable, b.value)).meaning b.value) c.args.plan.now.nodes) (sym c.as_mut_slice.ensures.value) c.requires.joined)
 
 pub run_over-requires-clause-linked : goal.run_over-requires-clause-linked
 run_over-requires-clause-linked g c κs within = linked_as (λ b. (goal.Machine-dyn g (b.vtable, b.value)).meaning b.value) c.args.plan.now c.prepare.new.plan c.as_mut_slice.result.now c.prepare.ensures.same.agents c.prepare.ensures.same.nodes c.prepare.ensures.same.kept c.prepare.ensures.same.ends (subst (AreLinkedOver (λ b. (goal.Machine-dyn g (b.vtable, b.value)).meaning b.value) c.args.plan.now) (sym c.as_mut_slice.ensures.value) c.requires.linked)

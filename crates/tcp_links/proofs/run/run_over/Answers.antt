@@ -7,7 +7,7 @@ use Rattle.agent_workers.proofs.RunLaws.{begun_all, fine_all}
 use Rattle.node_exchange.specs.Honest.{AreHonest}
 use Rattle.tcp_links.specs.declared.over.Played.{Played}
 use Rattle.tcp_links.specs.Ends.{DiffersOver}
-use Rattle.tcp_links.specs.Faults.{IsNoDifference}
+use Rattle.tcp_links.specs.Faults.{IsOtherFault}
 use Rattle.tcp_links.proofs.OverLaws.{err_on, nothing_on, cause_on, joined_over, joined_quiet}
 use Rattle.tcp_links.proofs.RunLaws.{held_in, differs_in, never_differ, starts_over, joined_start, none_start, over_start, held_start, new_over, differs_played, differs_last, differs_kept, no_break, last_run, last_duly, last_still, last_held}
 use Rattle.tcp_links.proofs.SharedLaws.{run_shared}
@@ -71,7 +71,7 @@ pub returns-in_err-play-clause-cause : goal.returns-in_err-play-clause-cause
 returns-in_err-play-clause-cause g c = cause_on Played _ _ _ c.from_residual-in_err-play.result _ refl c.from_residual-in_err-play.ensures.1 c.in_err-play.ensures.cause
 
 pub returns-in_err-play-clause-honest : goal.returns-in_err-play-clause-honest
-returns-in_err-play-clause-honest g c = λ h. (nothing_on c.from_residual-in_err-play.result _ _ c.from_residual-in_err-play.ensures.1, err_on c.from_residual-in_err-play.result _ IsNoDifference c.from_residual-in_err-play.ensures.1 (c.in_err-play.ensures.honest h (held_start (λ b. (goal.Machine-dyn g (b.vtable, b.value)).meaning b.value) c.args.plan.now c.args.cells.now c.requires.plan c.requires.linked)).1)
+returns-in_err-play-clause-honest g c = λ h. (nothing_on c.from_residual-in_err-play.result _ _ c.from_residual-in_err-play.ensures.1, err_on c.from_residual-in_err-play.result _ IsOtherFault c.from_residual-in_err-play.ensures.1 (c.in_err-play.ensures.honest h (held_start (λ b. (goal.Machine-dyn g (b.vtable, b.value)).meaning b.value) c.args.plan.now c.args.cells.now c.requires.plan c.requires.linked)).1)
 
 pub returns-in_err-exchange-clause-size : goal.returns-in_err-exchange-clause-size
 returns-in_err-exchange-clause-size g c = c.exchange.ensures.quiet.size ∙ c.play_over.ensures.size ∙ c.in_ok-begin_all.ensures.started.size
@@ -86,7 +86,7 @@ pub returns-in_err-exchange-clause-dialer : goal.returns-in_err-exchange-clause-
 returns-in_err-exchange-clause-dialer g c = λ d. c.exchange.ensures.dialer (c.play_over.ensures.dialer d)
 
 pub returns-in_err-exchange-clause-honest : goal.returns-in_err-exchange-clause-honest
-returns-in_err-exchange-clause-honest g c = λ h. (nothing_on c.from_residual-in_err-exchange.result _ _ c.from_residual-in_err-exchange.ensures.1, err_on c.from_residual-in_err-exchange.result _ IsNoDifference c.from_residual-in_err-exchange.ensures.1 (c.in_err-exchange.ensures.honest (c.in_ok-play.ensures.honest h (held_start (λ b. (goal.Machine-dyn g (b.vtable, b.value)).meaning b.value) c.args.plan.now c.args.cells.now c.requires.plan c.requires.linked)).0.0).1)
+returns-in_err-exchange-clause-honest g c = λ h. (nothing_on c.from_residual-in_err-exchange.result _ _ c.from_residual-in_err-exchange.ensures.1, err_on c.from_residual-in_err-exchange.result _ IsOtherFault c.from_residual-in_err-exchange.ensures.1 (c.in_err-exchange.ensures.honest (c.in_ok-play.ensures.honest h (held_start (λ b. (goal.Machine-dyn g (b.vtable, b.value)).meaning b.value) c.args.plan.now c.args.cells.now c.requires.plan c.requires.linked)).0.0).1)
 
 pub returns-in-Some-clause-size : goal.returns-in-Some-clause-size
 returns-in-Some-clause-size g c = c.settle_all.ensures.settled.quiet.size ∙ c.exchange.ensures.quiet.size ∙ c.play_over.ensures.size ∙ c.in_ok-begin_all.ensures.started.size

@@ -7,7 +7,7 @@ use Rattle.protocol_steps.specs.AdoptRange.{in_range}
 use Rattle.adopt_agent.specs.Best.{AreBest}
 use Rattle.adopt_agent.specs.Costs.{Differ}
 use Rattle.adopt_agent.specs.Stage.{knowing, view_at}
-use Rattle.adopt_agent.specs.Sound.{AreCosts, AreShares}
+use Rattle.adopt_agent.specs.Sound.{AreCosts, AreTableShares}
 use Rattle.adopt_agent.proofs.BoundLaws.{written_back, backed_reset}
 use Rattle.adopt_agent.proofs.GrowLaws.{ground_grows}
 use Rattle.adopt_agent.proofs.ExchangeLaws.{names_put, put_differs}
@@ -29,7 +29,7 @@ exchange-requires-clause-before c =
       before = a.known;
       others = subst (λ (x : Context). Differ a.known x var) (sym c.in_ok-set.ensures.given) (put_differs a.known var c.args.value);
       costed = subst (λ (xs : List ℕ). AreCosts a.own a.place a.known xs) (sym c.as_mut_slice-2.ensures.value) c.self.invariant.costed;
-      shared = subst (λ (xs : List ℕ). AreShares a.own a.place a.known var xs) (sym (c.as_slice.ensures.value ∙ written_back (vec_len c.resize.new.self) c.set_shares.new.shares c.resize.new.self.items (sym (c.set_shares.auto.shares ∙ c.as_mut_slice.ensures.len)))) c.set_shares.ensures;
+      shared = subst (λ (xs : List ℕ). AreTableShares a.own a.place a.known var xs) (sym (c.as_slice.ensures.value ∙ written_back (vec_len c.resize.new.self) c.set_shares.new.shares c.resize.new.self.items (sym (c.set_shares.auto.shares ∙ c.as_mut_slice.ensures.len)))) c.set_shares.ensures;
     }
 
 pub invariant_of-self-2 : goal.invariant_of-self-2

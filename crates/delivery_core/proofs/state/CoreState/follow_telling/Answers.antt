@@ -5,7 +5,7 @@ use Rattle.letter_queues.proofs.ListLaws.{written_back}
 use Rattle.delivery_core.specs.State.{SeatView, CoreView}
 use Rattle.delivery_core.specs.NetworkState.{most_counted}
 use Rattle.delivery_core.specs.SeatEvents.{core_fault}
-use Rattle.delivery_core.specs.Shown.{IsCore, Shows}
+use Rattle.delivery_core.specs.Shown.{IsCore, ShowsNetwork}
 use Rattle.delivery_core.specs.Exchanges.{Exchanges, Trades}
 use Rattle.delivery_core.proofs.ShownLaws.{fault_same}
 use Rattle.delivery_core.proofs.ActLaws.{seated}
@@ -25,7 +25,7 @@ returns-clause-advances c = λ p net core.
     let after = deliveries_after p net seats here.shows e (seated seats e none) in (
       fault_same p net seats here.shows e ∙ none,
       record {
-        shows = subst (λ (xs : List SeatView). Shows p (effect net e) xs) (sym back) (c.in_ok-act_telling.ensures.moved p net (subst (λ (xs : List SeatView). Shows p net xs) (sym c.as_mut_slice.ensures.value) here.shows));
+        shows = subst (λ (xs : List SeatView). ShowsNetwork p (effect net e) xs) (sym back) (c.in_ok-act_telling.ensures.moved p net (subst (λ (xs : List SeatView). ShowsNetwork p net xs) (sym c.as_mut_slice.ensures.value) here.shows));
         delivered = counted (deliveries net) (counts c.args.takes.now) c.self.inside.delivered c.count_of-taken.result c.saturating_add-self-inside.result most_counted
             here.delivered count c.saturating_add-self-inside.ensures
             ∙ ap (λ n. min n most_counted) (sym after);

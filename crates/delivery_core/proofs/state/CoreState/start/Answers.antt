@@ -6,7 +6,7 @@ use Rattle.delivery_core.specs.State.{SeatView}
 use Rattle.delivery_core.specs.NetworkState.{most_counted}
 use Rattle.delivery_core.specs.Agents.{agents_of, network_of}
 use Rattle.delivery_core.specs.Starts.{new_seat, Begun}
-use Rattle.delivery_core.specs.Shown.{Shows}
+use Rattle.delivery_core.specs.Shown.{ShowsNetwork}
 use Rattle.delivery_core.proofs.StartLaws.{begun_agents, begun_all, none_delivered}
 use Rattle.delivery_core.proofs.state.CoreState.start.Goals as goal
 
@@ -30,4 +30,4 @@ returns-clause-core c =
     let vec = c.in_ok-seats.seats in
     let same : length c.start_all.new.seats ≡ vec.len = omega arith in
     let back = written_back vec.len c.start_all.new.seats vec.items same (sym vec.ok.0) in
-    record { shows = subst (λ (xs : List SeatView). Shows p (network_of p c.args.start.now) xs) (sym back) (begun_all p made c.start_all.new.seats end); delivered = sym (ap (λ (n : ℕ). min n most_counted) (none_delivered made)) }
+    record { shows = subst (λ (xs : List SeatView). ShowsNetwork p (network_of p c.args.start.now) xs) (sym back) (begun_all p made c.start_all.new.seats end); delivered = sym (ap (λ (n : ℕ). min n most_counted) (none_delivered made)) }

@@ -5,7 +5,7 @@ use Rattle.protocol_steps.specs.Agent.{last_of}
 use Rattle.protocol_steps.specs.DpopJoin.{can_join, decide, join}
 use Rattle.std.proofs.lemmas.Result.{IfOk-weaker}
 use Rattle.dpop_agent.specs.Stage.{view_at}
-use Rattle.dpop_agent.specs.Deed.{Gives}
+use Rattle.dpop_agent.specs.Deed.{GivesDpopStep}
 use Rattle.dpop_agent.proofs.RangeLaws.{util_scope, util_cells}
 use Rattle.dpop_agent.specs.Keeping.{keeping}
 use Rattle.dpop_agent.specs.Joint.{IsUtilWhereMay}
@@ -64,7 +64,7 @@ returns-then-is_none-clause-gives c =
     let none = ap (λ (vs : List ℕ). is_some (last_of vs)) (c.as_slice.ensures ∙ sym c.as_slice-2.ensures) ∙ sym (ap (λ (o : Option ℕ). is_some o) last) ∙ copied_some c.last.result ∙ c.is_none.ensures ∙ ap not c.if-is_none.true in
     let w : DpopView = view_at a.own a.place a.stage a.kept.items (Some made) a.value in
     let after = c.decide-then-is_none-2.new.self in
-    IfOk-weaker c.decide-then-is_none-2.result (λ ps. Gives (decide w c.new.result) after c.in_ok-sent.sent.items ps.items) (λ ps. Gives (join c.args.self.now) after c.args.parcels.items ps.items)
+    IfOk-weaker c.decide-then-is_none-2.result (λ ps. GivesDpopStep (decide w c.new.result) after c.in_ok-sent.sent.items ps.items) (λ ps. GivesDpopStep (join c.args.self.now) after c.args.parcels.items ps.items)
     (λ ps gives. root_joins a.own a.place a.stage a.kept.items now a.made a.value c.args.self.now w made c.as_slice.result.now c.new.result after c.args.parcels.items c.in_ok-sent.sent.items ps.items c.self.view_is c.as_slice-kept.ensures.value c.as_slice.ensures may.0 may.1 none c.in_ok-sent.ensures refl c.new.ensures gives)
     c.decide-then-is_none-2.ensures.gives
 

@@ -8,7 +8,7 @@ use Rattle.protocol_steps.specs.DpopJoin.{join}
 use Rattle.protocol_steps.specs.DpopStep.{dpop_message}
 use Rattle.dpop_agent.specs.Stage.{view_at}
 use Rattle.dpop_agent.specs.Keeping.{keeping}
-use Rattle.dpop_agent.specs.Deed.{Gives, IsTaken}
+use Rattle.dpop_agent.specs.Deed.{GivesDpopStep, IsTableTaken}
 use Rattle.dpop_agent.proofs.TakeLaws.{cells_with, known_after, keeps_sound, open_works, passes_over, takes, untaken}
 use Rattle.dpop_agent.proofs.agent.DpopAgent.take_util.Goals as goal
 
@@ -27,7 +27,7 @@ returns-in_default-2-clause-gives c =
     let scope = c.args.scope.now in
     let cells = c.args.cells.now in
     let found = ap (λ (cs : List ℕ). position (λ x. eqb x c.args.from) cs) (sym c.as_slice.ensures) ∙ sym c.position_of.ensures ∙ c.in-Some.is in
-    let tried = subst (λ (es : List (Option CostTable)). IsTaken (keeping a.own a.place es) k scope cells c.in_ok-table.field-0) c.as_slice-kept.ensures.value c.in_ok-table.ensures in
+    let tried = subst (λ (es : List (Option CostTable)). IsTableTaken (keeping a.own a.place es) k scope cells c.in_ok-table.field-0) c.as_slice-kept.ensures.value c.in_ok-table.ensures in
     let not_taken = untaken (keeping a.own a.place a.kept.items) k scope cells c.in_ok-table.field-0 tried c.in_default-2.not-Some in
     passes_over a.own a.place a.stage a.kept.items a.made a.value c.args.self.now c.args.from k scope cells c.args.parcels.items c.args.parcels.items c.self.view_is found not_taken refl
 
@@ -39,8 +39,8 @@ invariant_of-self c =
     let cells = c.args.cells.now in
     let t = c.in-Some-2.table in
     let now = c.as_slice-kept.result.now in
-    let taken = subst (λ (es : List (Option CostTable)). IsTaken (keeping a.own a.place es) k scope cells (Some t)) c.as_slice-kept.ensures.value
-    (subst (λ (o : Option CostTable). IsTaken (keeping a.own a.place now) k scope cells o) c.in-Some-2.is c.in_ok-table.ensures) in
+    let taken = subst (λ (es : List (Option CostTable)). IsTableTaken (keeping a.own a.place es) k scope cells (Some t)) c.as_slice-kept.ensures.value
+    (subst (λ (o : Option CostTable). IsTableTaken (keeping a.own a.place now) k scope cells o) c.in-Some-2.is c.in_ok-table.ensures) in
     keeps_sound a.own a.place a.stage a.kept.items a.made k scope cells t c.self.invariant taken
 
 pub join-requires : goal.join-requires
@@ -53,8 +53,8 @@ join-requires c =
     let now = c.as_slice-kept.result.now in
     let started = ap (λ (v : DpopView). v.phase.started) c.self.view_is ∙ c.requires.running.started in
     let well = ap (λ (v : DpopView). v.phase.failed) c.self.view_is ∙ c.requires.running.well in
-    let taken = subst (λ (es : List (Option CostTable)). IsTaken (keeping a.own a.place es) k scope cells (Some t)) c.as_slice-kept.ensures.value
-    (subst (λ (o : Option CostTable). IsTaken (keeping a.own a.place now) k scope cells o) c.in-Some-2.is c.in_ok-table.ensures) in
+    let taken = subst (λ (es : List (Option CostTable)). IsTableTaken (keeping a.own a.place es) k scope cells (Some t)) c.as_slice-kept.ensures.value
+    (subst (λ (o : Option CostTable). IsTableTaken (keeping a.own a.place now) k scope cells o) c.in-Some-2.is c.in_ok-table.ensures) in
     let vars = subst (λ (es : List (Option CostTable)). c.in_ok-over.over.vars ≡ separator_with (keeping a.own a.place es) (scope ∷ kept_scopes (keeping a.own a.place es)) ++ (a.own.me ∷ [])) c.as_slice-kept.ensures.value c.in_ok-over.ensures.vars in
     record {
       working = open_works a.own a.place a.stage a.kept.items a.made k scope cells c.self.invariant started well taken.0;
@@ -73,8 +73,8 @@ returns-clause-gives c =
     let after = c.join.new.self in
     let mid : DpopView = view_at a.own a.place a.stage (slice_set a.kept.items k (Some t)) a.made a.value in
     let found = ap (λ (cs : List ℕ). position (λ x. eqb x c.args.from) cs) (sym c.as_slice.ensures) ∙ sym c.position_of.ensures ∙ c.in-Some.is in
-    let taken = subst (λ (es : List (Option CostTable)). IsTaken (keeping a.own a.place es) k scope cells (Some t)) c.as_slice-kept.ensures.value
-    (subst (λ (o : Option CostTable). IsTaken (keeping a.own a.place now) k scope cells o) c.in-Some-2.is c.in_ok-table.ensures) in
-    IfOk-weaker c.join.result (λ ps. Gives (join mid) after c.args.parcels.items ps.items) (λ ps. Gives (dpop_message v c.args.from (Util scope cells)) after c.args.parcels.items ps.items)
+    let taken = subst (λ (es : List (Option CostTable)). IsTableTaken (keeping a.own a.place es) k scope cells (Some t)) c.as_slice-kept.ensures.value
+    (subst (λ (o : Option CostTable). IsTableTaken (keeping a.own a.place now) k scope cells o) c.in-Some-2.is c.in_ok-table.ensures) in
+    IfOk-weaker c.join.result (λ ps. GivesDpopStep (join mid) after c.args.parcels.items ps.items) (λ ps. GivesDpopStep (dpop_message v c.args.from (Util scope cells)) after c.args.parcels.items ps.items)
     (λ ps gives. takes a.own a.place a.stage a.kept.items a.made a.value v c.args.from k scope cells t after c.args.parcels.items ps.items c.self.view_is found taken gives)
     c.join.ensures.gives
