@@ -13,8 +13,6 @@
 
 mod ends;
 mod memory;
-#[cfg(test)]
-mod tests;
 
 pub use ends::{LinkHead, LinkTail, SLOTS, link, settle, slots_agree};
 pub use memory::NoMemory;

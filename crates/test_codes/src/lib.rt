@@ -1,5 +1,5 @@
-//! Tests of codes, frames, numbered names and a log, with ample memory, and of sources and sinks
-//! that fail. The program does not make these calls.
+//! Tests of codes, frames, links, networks, numbered names and a log, with ample memory, and of
+//! sources and sinks that fail. The program does not make these calls.
 #![tactic(auto)]
 
 #[cfg(test)]
@@ -9,6 +9,10 @@ mod edges;
 #[cfg(test)]
 mod frames;
 #[cfg(test)]
+mod links;
+#[cfg(test)]
 mod logs;
+#[cfg(test)]
+mod networks;
 #[cfg(test)]
 mod texts;

@@ -19,8 +19,6 @@ mod problem;
 mod raising;
 mod reader;
 mod scope;
-#[cfg(test)]
-mod tests;
 mod tuple;
 mod word;
 

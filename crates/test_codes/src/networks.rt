@@ -1,8 +1,8 @@
 //! A network that is read and written, and one that is refused.
 
-use crate::{ReadWcsp, WcspFault, WcspKind, read_wcsp};
 use problem_text::write_problem;
 use std::test::Fail;
+use wcsp_text::{ReadWcsp, WcspFault, WcspKind, read_wcsp};
 
 #[test]
 fn network_is_read(rt: HostRuntime) -> Result<(), Fail> {

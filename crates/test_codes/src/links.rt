@@ -2,7 +2,7 @@
 
 ghost use Rattle.fifo_links.specs.Link.{SameTail};
 
-use crate::{LinkTail, link, settle};
+use fifo_links::{LinkTail, link, settle};
 use std::test::Fail;
 
 // Sends the numbers below `count`. Returns whether all of them were sent.
