@@ -62,6 +62,10 @@ module _ {X : Type 0} {F : X → Type 0} where
   abbrev pub fault_in : Cell X F → Option VisitFault
   fault_in c = c.fault
 
+  -- how often the cell was visited; a visit of a cell that has failed does not count
+  abbrev pub visits_in : Cell X F → ℕ
+  visits_in c = c.visits.count
+
   -- its tails, and its heads
   abbrev pub tails_in : Cell X F → List Tail
   tails_in c = c.tails.items

@@ -13,6 +13,7 @@ mod visit;
 
 use crate::fault::VisitFault;
 use crate::sealed::Sealed;
+use crate::visits::VisitCount;
 use dcop_base::VarId;
 use fifo_links::{LinkHead, LinkTail};
 use protocol_steps::{Journal, Machine};
@@ -36,5 +37,6 @@ pub struct Cell {
     begun: bool,
     fault: Option<VisitFault>,
     alloc: Global,
+    visits: VisitCount,
     ghost stamped: { stamp ≤ amount_limit },
 }

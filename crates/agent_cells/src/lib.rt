@@ -20,6 +20,7 @@ mod marks;
 mod places;
 mod sealed;
 mod settling;
+mod visits;
 
 pub use cell::{Cell, HeadList, TailList};
 pub use fault::VisitFault;

@@ -5,7 +5,7 @@ ghost use Rattle.protocol_steps.specs.View.{made_of};
 ghost use Rattle.worker_laws.specs.Visits.{IsStarted};
 ghost use Rattle.agent_cells.specs.declared.fault.VisitFault.TheVariants.{NoMemory as no_memory};
 ghost use Rattle.agent_cells.specs.Links.{AreSameTails};
-ghost use Rattle.agent_cells.specs.State.{state_of, begun_in, fault_in, IsSoundCell, IsCell, KeepsLinks};
+ghost use Rattle.agent_cells.specs.State.{state_of, begun_in, fault_in, visits_in, IsSoundCell, IsCell, KeepsLinks};
 
 use super::Cell;
 use crate::deliver::deliver;
@@ -28,6 +28,7 @@ impl Cell {
         ensures me { (state_of (λ b. meaning b) self.new).me ≡ (state_of (λ b. meaning b) self.old).me }
         ensures origin { made_of (state_of (λ b. meaning b) self.new).view ≡ made_of (state_of (λ b. meaning b) self.old).view }
         ensures begun { begun_in self.new ≡ true }
+        ensures visits { visits_in self.new ≡ visits_in self.old }
         ensures ok { OnOk result (IsStarted (state_of (λ b. meaning b) self.old).view (state_of (λ b. meaning b) self.new)) }
         ensures fine { OnOk result (fault_in self.new ≡ fault_in self.old) }
         ensures err { OnErr result (fault_in self.new ≡ Some no_memory) }
@@ -48,6 +49,7 @@ impl Cell {
         ensures me { self.new.me ≡ self.old.me }
         ensures begun { self.new.begun ≡ self.old.begun }
         ensures fault { self.new.fault ≡ self.old.fault }
+        ensures visits { self.new.visits ≡ self.old.visits }
         ensures origin { made_of (meaning self.new.machine) ≡ made_of (meaning self.old.machine) }
         ensures ok { OnOk result (IsStarted (meaning self.old.machine) (state_of (λ b. meaning b) self.new)) }
     {

@@ -46,6 +46,7 @@ impl Cell {
         ensures me { self.new.me ≡ self.old.me }
         ensures begun { self.new.begun ≡ self.old.begun }
         ensures fault { self.new.fault ≡ self.old.fault }
+        ensures visits { self.new.visits ≡ self.old.visits }
         ensures origin { made_of (meaning self.new.machine) ≡ made_of (meaning self.old.machine) }
         ensures ok { OnOk result (IsHandled (state_of (λ b. meaning b) self.old)
             taken.letters.items taken.takes.items taken.greatest (state_of (λ b. meaning b) self.new)) }

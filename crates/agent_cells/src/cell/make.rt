@@ -6,9 +6,10 @@ ghost use Rattle.std.specs.List.Sorted.{IsStrictlyIncreasing};
 ghost use Rattle.protocol_steps.specs.View.{private_of, started_of};
 ghost use Rattle.worker_laws.specs.Cells.{peers};
 ghost use Rattle.agent_cells.specs.Links.{lanes_sent, lanes_taken};
-ghost use Rattle.agent_cells.specs.State.{state_of, begun_in, fault_in, tails_in, heads_in, IsCell};
+ghost use Rattle.agent_cells.specs.State.{state_of, begun_in, fault_in, tails_in, heads_in, visits_in, IsCell};
 
 use super::{Cell, HeadList, TailList};
+use crate::visits::VisitCount;
 use dcop_base::{NoMemory, VarId};
 use protocol_steps::{Journal, Machine};
 use std::alloc::Global;
@@ -36,6 +37,7 @@ impl Cell {
         ensures fault { IfOk result (λ c. fault_in c ≡ None) }
         ensures me { IfOk result (λ c. (state_of (λ b. meaning b) c).me ≡ me) }
         ensures view { IfOk result (λ c. (state_of (λ b. meaning b) c).view ≡ meaning machine) }
+        ensures visits { IfOk result (λ c. visits_in c ≡ 0) }
         ensures tails { IfOk result (λ c. tails_in c ≡ tails.items) }
         ensures heads { IfOk result (λ c. heads_in c ≡ heads.items) }
     {
@@ -49,6 +51,7 @@ impl Cell {
             begun: false,
             fault: None,
             alloc,
+            visits: VisitCount::new(),
         })
     }
 }

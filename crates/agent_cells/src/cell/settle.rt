@@ -5,7 +5,7 @@ ghost use Rattle.fifo_links.specs.Link.{sent_on, taken_from, SameTail, SameHead}
 ghost use Rattle.worker_laws.specs.Visits.{IsQuiet};
 ghost use Rattle.worker_laws.specs.CellRounds.{IsSettled};
 ghost use Rattle.agent_cells.specs.Settled.{TailJoins, HeadJoins, EndsJoin, SettlesTail, SettlesHead, TailIsSettled, HeadIsSettled, EndsAreSettled, HaveBothEnds};
-ghost use Rattle.agent_cells.specs.State.{state_of, begun_in, fault_in, tails_in, heads_in, IsCell};
+ghost use Rattle.agent_cells.specs.State.{state_of, begun_in, fault_in, tails_in, heads_in, visits_in, IsCell};
 
 use super::Cell;
 use crate::sealed::Sealed;
@@ -39,6 +39,7 @@ impl Cell {
         ensures other_tails { tails_in other.new ≡ tails_in other.old }
         ensures begun { (begun_in self.new ≡ begun_in self.old) × (begun_in other.new ≡ begun_in other.old) }
         ensures fault { (fault_in self.new ≡ fault_in self.old) × (fault_in other.new ≡ fault_in other.old) }
+        ensures visits { (visits_in self.new ≡ visits_in self.old) × (visits_in other.new ≡ visits_in other.old) }
     {
         settle_between(
             self.tails.as_mut_slice(),
@@ -64,6 +65,7 @@ impl Cell {
         ensures heads { heads_in self.new ≡ heads_in self.old }
         ensures begun { begun_in self.new ≡ begun_in self.old }
         ensures fault { fault_in self.new ≡ fault_in self.old }
+        ensures visits { visits_in self.new ≡ visits_in self.old }
     {
         settle_tail_to(self.tails.as_mut_slice(), to, 0, head)
     }
@@ -82,6 +84,7 @@ impl Cell {
         ensures tails { tails_in self.new ≡ tails_in self.old }
         ensures begun { begun_in self.new ≡ begun_in self.old }
         ensures fault { fault_in self.new ≡ fault_in self.old }
+        ensures visits { visits_in self.new ≡ visits_in self.old }
     {
         settle_head_from(self.heads.as_mut_slice(), from, tail)
     }

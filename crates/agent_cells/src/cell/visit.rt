@@ -1,17 +1,18 @@
 //! A visit of a cell.
 
-ghost use Rattle.std.specs.Prelude.{◌≡◌, ◌≤◌, ◌⊎◌, true, false, IfOk, OnOk, IfErr, IfSome, Err, None, Some};
+ghost use Rattle.std.specs.Prelude.{◌≡◌, ◌≤◌, ◌+◌, ◌⊎◌, true, false, IfOk, OnOk, IfErr, IfSome, Err, None, Some};
 ghost use Rattle.dcop_base.specs.Limits.{amount_limit};
 ghost use Rattle.protocol_steps.specs.View.{made_of, ended_of};
 ghost use Rattle.worker_laws.specs.Visits.{IsVisit};
 ghost use Rattle.agent_cells.specs.declared.fault.VisitFault.TheVariants.{StampEnd};
 ghost use Rattle.agent_cells.specs.Failed.{HasReachedEnd};
 ghost use Rattle.agent_cells.specs.Marked.{StayMarked, LeavesUnmarked};
-ghost use Rattle.agent_cells.specs.State.{state_of, begun_in, fault_in, IsCell, KeepsLinks};
+ghost use Rattle.agent_cells.specs.State.{state_of, begun_in, fault_in, visits_in, IsCell, KeepsLinks};
 
 use super::Cell;
 use crate::collect::collect_waiting;
 use crate::fault::VisitFault;
+use crate::visits::VisitCount;
 use dcop_edge::Gate;
 
 impl Cell {
@@ -36,6 +37,7 @@ impl Cell {
         ensures me { (state_of (λ b. meaning b) self.new).me ≡ (state_of (λ b. meaning b) self.old).me }
         ensures origin { made_of (state_of (λ b. meaning b) self.new).view ≡ made_of (state_of (λ b. meaning b) self.old).view }
         ensures ok { IfOk result (λ n. IsVisit (state_of (λ b. meaning b) self.old) n (state_of (λ b. meaning b) self.new)) }
+        ensures once { OnOk result (visits_in self.new ≡ visits_in self.old + 1) }
         ensures fine { OnOk result (fault_in self.new ≡ None) }
         ensures bounded { (state_of (λ b. meaning b) self.new).stamp ≤ amount_limit }
         ensures err { IfErr result (λ f. fault_in self.new ≡ Some f) }
@@ -63,6 +65,7 @@ impl Cell {
         ensures me { (state_of (λ b. meaning b) self.new).me ≡ (state_of (λ b. meaning b) self.old).me }
         ensures origin { made_of (state_of (λ b. meaning b) self.new).view ≡ made_of (state_of (λ b. meaning b) self.old).view }
         ensures ok { IfOk result (λ n. IsVisit (state_of (λ b. meaning b) self.old) n (state_of (λ b. meaning b) self.new)) }
+        ensures once { OnOk result (visits_in self.new ≡ visits_in self.old + 1) }
         ensures fine { OnOk result (fault_in self.new ≡ None) }
         ensures bounded { (state_of (λ b. meaning b) self.new).stamp ≤ amount_limit }
         ensures err { IfErr result (λ f. fault_in self.new ≡ Some f) }
@@ -77,6 +80,7 @@ impl Cell {
         if let Some(fault) = self.fault {
             return Err(fault);
         }
+        self.visits = VisitCount::more(&self.visits);
         let outcome = self.try_visit(marks);
         if let Err(fault) = outcome {
             self.fault = Some(fault);
@@ -94,6 +98,7 @@ impl Cell {
         ensures me { self.new.me ≡ self.old.me }
         ensures begun { self.new.begun ≡ self.old.begun }
         ensures fault { self.new.fault ≡ self.old.fault }
+        ensures visits { self.new.visits ≡ self.old.visits }
         ensures origin { made_of (meaning self.new.machine) ≡ made_of (meaning self.old.machine) }
         ensures ok { IfOk result (λ n. IsVisit (state_of (λ b. meaning b) self.old) n (state_of (λ b. meaning b) self.new)) }
         ensures end { result ≡ Err StampEnd → HasReachedEnd (state_of (λ b. meaning b) self.old) (state_of (λ b. meaning b) self.new) }
