@@ -1,10 +1,10 @@
 -- Cells that stay the same except for what they know.
-use Rattle.std.proofs.Common.{◌≡◌, ◌≢◌, ℕ, suc, ◌==◌, if◌then◌else◌, Bool, List, [], ◌∷◌, ◌++◌, length, None, refl, sym, ap, subst, ◌∙◌, inl, inr, arith}
+use Rattle.std.proofs.Common.{◌≡◌, ◌≢◌, ℕ, suc, ◌==◌, not, if◌then◌else◌, Bool, true, false, List, [], ◌∷◌, ◌++◌, length, None, refl, sym, ap, subst, ◌∙◌, inl, inr, arith}
 use Rattle.std.proofs.lemmas.Bool.{cases_Bool, eqb-true}
 use Rattle.std.proofs.lemmas.List.Sums.{sum_by-cons}
 use Rattle.std.specs.declared.dyn_box.DynBox.{DynBox}
 use Rattle.std.specs.declared.alloc.Global.{Global}
-use Rattle.protocol_steps.specs.View.{View}
+use Rattle.protocol_steps.specs.View.{View, ended_of}
 use Rattle.fifo_links.specs.Link.{known_to}
 use Rattle.worker_laws.specs.Cells.{CellState, peers, lane, known_from}
 use Rattle.worker_laws.specs.Visits.{IsQuiet}
@@ -14,12 +14,13 @@ use Rattle.agent_cells.specs.Links.{Tail, Head, known_of, AreSameTails, AreSameH
 use Rattle.std.specs.List.Sorted.{IsStrictlyIncreasing}
 use Rattle.dcop_base.specs.Table.{has}
 use Rattle.agent_cells.specs.Settled.{StandsAt, SettlesTail, SettlesHead, EndsAreSettled}
-use Rattle.agent_cells.specs.State.{state_of, begun_in, fault_in, tails_in, heads_in, IsCell, KeepsLinks}
+use Rattle.agent_cells.specs.State.{state_of, begun_in, fault_in, visits_in, tails_in, heads_in, IsCell, KeepsLinks}
 use Rattle.agent_cells.proofs.PlainLaws.{settled_plain}
 use Rattle.agent_cells.proofs.SameLaws.{same_tails, same_heads, tails_then, heads_then}
 use Rattle.agent_cells.proofs.CellLaws.{visited_idle}
 use Rattle.agent_workers.specs.Settled.{CanSettle, StaysQuiet, HasSettled}
 use Rattle.agent_workers.specs.Turns.{HasTurned}
+use Rattle.agent_workers.specs.Watched.{IsVisitedOnce}
 
 pub quiet_none : (s : CellState) → IsQuiet s s
 quiet_none s = record { me = refl; viewed = refl; stamped = refl; noted = refl; sent = refl; taken = refl }
@@ -60,6 +61,14 @@ known_others from k (x ∷ xs) (y ∷ ys) ne same others =
     ] in
     omega (arith, rest, old, new, head)
 
+-- a test that holds, and its opposite
+pub not_true : (marked idle : Bool) → idle ≡ not marked → idle ≡ true → marked ≡ false
+not_true false idle is holds = refl
+not_true true idle is holds = let no : false ≡ true = sym is ∙ holds in absurd (cc)
+
+pub not_both : (idle : Bool) → idle ≡ false → idle ≡ true → ⊥
+not_both idle is holds = let no : false ≡ true = sym is ∙ holds in absurd (cc)
+
 module _ {X : Type 0} {F : X → Type 0} (M : DynBox X Global F → View) where
   pub keeps_none : (c : Cell X F) → KeepsLinks c c
   keeps_none c = record { tails = same_tails c.tails.items; heads = same_heads c.heads.items }
@@ -68,7 +77,7 @@ module _ {X : Type 0} {F : X → Type 0} (M : DynBox X Global F → View) where
   keeps_then a b c k l = record { tails = tails_then a.tails.items b.tails.items c.tails.items k.tails l.tails; heads = heads_then a.heads.items b.heads.items c.heads.items k.heads l.heads }
 
   pub stays_none : (c : Cell X F) → StaysQuiet M c c
-  stays_none c = record { cell = λ s. s; quiet = quiet_none (state_of M c); links = keeps_none c; begun = refl; fault = refl }
+  stays_none c = record { cell = λ s. s; quiet = quiet_none (state_of M c); links = keeps_none c; begun = refl; fault = refl; visits = refl }
 
   pub stays_then : (a b c : Cell X F) → StaysQuiet M a b → StaysQuiet M b c → StaysQuiet M a c
   stays_then a b c s t = record {
@@ -77,14 +86,16 @@ module _ {X : Type 0} {F : X → Type 0} (M : DynBox X Global F → View) where
     links = keeps_then a b c s.links t.links;
     begun = t.begun ∙ s.begun;
     fault = t.fault ∙ s.fault;
+    visits = t.visits ∙ s.visits;
   }
 
   pub has_settled : (from to from_after to_after : Cell X F) (count : ℕ) → CanSettle M from to → IsCell M from_after → IsCell M to_after
       → IsQuiet (state_of M from) (state_of M from_after) → IsQuiet (state_of M to) (state_of M to_after)
       → SettlesTail (tails_in from) to.me (tails_in from_after) → SettlesHead (heads_in to) from.me (heads_in to_after) → EndsAreSettled (tails_in from_after) to.me (heads_in to_after) from.me count
       → heads_in from_after ≡ heads_in from → tails_in to_after ≡ tails_in to → (begun_in from_after ≡ begun_in from) × (begun_in to_after ≡ begun_in to) → (fault_in from_after ≡ fault_in from) × (fault_in to_after ≡ fault_in to)
+      → (visits_in from_after ≡ visits_in from) × (visits_in to_after ≡ visits_in to)
       → HasSettled M from to from_after to_after
-  has_settled from to from_after to_after count can from_cell to_cell q r tails heads ends same_h same_t begun fault =
+  has_settled from to from_after to_after count can from_cell to_cell q r tails heads ends same_h same_t begun fault visits =
       record {
         from_quiet = record {
           cell = λ _. from_cell;
@@ -92,6 +103,7 @@ module _ {X : Type 0} {F : X → Type 0} (M : DynBox X Global F → View) where
           links = record { tails = tails.same; heads = subst (λ (hs : List Head). AreSameHeads (heads_in from) hs) (sym same_h) (same_heads (heads_in from)) };
           begun = begun.0;
           fault = fault.0;
+          visits = visits.0;
         };
         from_known = ap known_of same_h;
         to_quiet = record {
@@ -100,6 +112,7 @@ module _ {X : Type 0} {F : X → Type 0} (M : DynBox X Global F → View) where
           links = record { tails = subst (λ (ts : List Tail). AreSameTails (tails_in to) ts) (sym same_t) (same_tails (tails_in to)); heads = heads.same };
           begun = begun.1;
           fault = fault.1;
+          visits = visits.1;
         };
         to_known = λ k ne. known_others from.me k (heads_in to) (heads_in to_after) ne heads.same heads.others;
         settled = settled_plain to.me from.me count (state_of M to_after) (state_of M from_after) (tails_in from_after) (heads_in to_after) refl refl refl
@@ -110,3 +123,11 @@ module _ {X : Type 0} {F : X → Type 0} (M : DynBox X Global F → View) where
   -- a cell that has not failed, and knows of nothing that waits, has had a turn that took nothing
   pub idle_turn : (c : Cell X F) → fault_in c ≡ None → ((j : ℕ) → known_from j (state_of M c).known ≡ 0) → HasTurned M 0 c c
   idle_turn c fine none = record { rests = λ _. (refl, refl); visit = λ _. (visited_idle (state_of M c) (state_of M c) none refl refl refl refl refl refl, fine) }
+
+  -- a cell that has ended has had its turn
+  pub ended_once : (c : Cell X F) → ended_of (state_of M c).view ≡ true → IsVisitedOnce M c c
+  ended_once c ended = record {
+    count = 0;
+    turn = record { rests = λ _. (refl, refl); visit = λ live. let no : true ≡ false = sym ended ∙ live in absurd (cc) };
+    once = λ live. let no : true ≡ false = sym ended ∙ live in absurd (cc);
+  }

@@ -1,6 +1,7 @@
 -- A run of cells, by its start and its rounds.
 use Rattle.std.proofs.Common.{◌≡◌, ℕ, ◌+◌, ◌<◌, ◌≤◌, ◌&&◌, Bool, false, Some, None, List, [], ◌∷◌, length, set, get_or, slice_get, refl, sym, ap, ap₂, subst, ◌∙◌, inl, inr, arith, length-set, ◌++◌}
 use Rattle.std.specs.List.{list_all}
+use Rattle.std.proofs.lemmas.Bool.{cases_lt}
 use Rattle.std.proofs.lemmas.Option.{slice_get_within, slice_get-get_or}
 use Rattle.std.proofs.lemmas.List.{length-map}
 use Rattle.std.proofs.lemmas.List.Sums.{sum_by-cons}
@@ -29,7 +30,7 @@ use Rattle.agent_workers.specs.Broken.{HaveBrokenOff}
 use Rattle.agent_workers.proofs.BrokenLaws.{no_end}
 use Rattle.agent_workers.specs.Run.{views_of, HasStarted, AreStarting, AreBusy, AreDue, ArePlayedIn, AreDulyPlayed, ArePlayedOut, EndIdle, AtStill, AreIdle, RestsAtStill}
 use Rattle.agent_workers.proofs.ListLaws.{map_back, each_are, one_at}
-use Rattle.agent_workers.proofs.CellLaws.{keeps_none}
+use Rattle.agent_workers.proofs.CellLaws.{keeps_none, keeps_then}
 use Rattle.agent_workers.proofs.JoinLaws.{stood, joined_still}
 use Rattle.agent_workers.proofs.SettleLaws.{settling}
 use Rattle.agent_workers.specs.Shared.{IsSharedRound, ArePlayedShared}
@@ -152,6 +153,35 @@ module _ {X : Type 0} {F : X → Type 0} (M : DynBox X Global F → View) where
       | inl here ↦ let at = here.0 in absurd (omega (arith, at, le))
       | inr out ↦ s.rest i a b e out.1 (omega (arith, le))
     ];
+  }
+
+  -- each cell is sound, whether its agent has started or not
+  pub sound_so_far : (k : ℕ) (before now : List (Cell X F)) → AreStarting M k before now → EachIs (λ c. IsCell M c) before → EachIs (λ c. IsCell M c) now
+  sound_so_far k before now s each = record {
+    each = λ i b is.
+        let a = stood M IsSameCell before now s.same i b is in
+        elim (cases_lt i k) [
+          | inl done ↦ (s.started i a.0 b a.1 is done).begun.cell
+          | inr ahead ↦ subst (λ (c : Cell X F). IsCell M c) (sym (s.rest i a.0 b a.1 is ahead)) (each.each i a.0 a.1)
+        ];
+  }
+
+  pub sound_more : (k : ℕ) (before now : List (Cell X F)) (y : Cell X F) → AreStarting M k before now → k < length now → EachIs (λ c. IsCell M c) before → IsCell M y → EachIs (λ c. IsCell M c) (set now k y)
+  sound_more k before now y s lt each sound = record {
+    each = λ i b is. elim (set_back now k y i b lt is) [
+      | inl here ↦ subst (λ (c : Cell X F). IsCell M c) (sym here.1) sound
+      | inr out ↦ (sound_so_far k before now s each).each i b out.1
+    ];
+  }
+
+  -- the same cells, after two steps
+  pub same_then : (a b c : List (Cell X F)) → EachBecomes IsSameCell a b → EachBecomes IsSameCell b c → EachBecomes IsSameCell a c
+  same_then a b c s t = record {
+    size = t.size ∙ s.size;
+    each = λ i x z e f.
+        let y = stood M IsSameCell b c t i z f in
+        let one = s.each i x y.0 e y.1 in
+        record { me = y.2.me ∙ one.me; links = keeps_then M x y.0 z one.links y.2.links };
   }
 
   pub start_all : (k : ℕ) (before now : List (Cell X F)) → length before ≤ k → AreStarting M k before now → EachBecomes (HasStarted M) before now

@@ -4,7 +4,7 @@ use Rattle.std.specs.Int.{bit_at, bit_not, trailing_zeros}
 use Rattle.std.proofs.lemmas.Bool.{cases_eq, cases_lt}
 use Rattle.std.proofs.lemmas.List.{get_or_past}
 use Rattle.std.proofs.lemmas.Nat.{shr-shr, shr_le}
-use Rattle.std.proofs.lemmas.Nat.Bits.{bit_at-zero, bit_at_above, bit_at-trailing_zeros, bit_at_set_same, bit_at_set_other, bit_at_clear_other}
+use Rattle.std.proofs.lemmas.Nat.Bits.{shr_and_one, bit_at-zero, bit_at_above, bit_at-trailing_zeros, bit_at_set_same, bit_at_set_other, bit_at_clear_other}
 use Rattle.dcop_base.specs.Limits.{variable_limit}
 use Rattle.agent_workers.specs.Watched.{IsUnmarked, AreCellsUnmarked}
 
@@ -143,3 +143,7 @@ keeping_more places done first flags words left place more rest is kept same sen
 pub keeping_all : (places : List ℕ) (done : ℕ) (first : List ℕ) (flags : List Bool) (words : List ℕ) (left : List Bool) → length places ≤ done → IsKeeping places done first flags words left
     → (q : ℕ) → q < length places → get_or places q 0 < variable_limit → IsUnmarked words (get_or places q 0) → slice_get flags (get_or places q 0) ≡ Some false
 keeping_all places done first flags words left all h q lt small un = sym (h.same (get_or places q 0) un) ∙ h.sent q (omega (arith, lt, all)) small un
+
+-- the mark of a place, read by itself
+pub unmarked_bit : (words : List ℕ) (place : ℕ) → bit_and (slice_index words (place / 64) / 2 ^ (place % 64)) 1 ≡ 0 → IsUnmarked words place
+unmarked_bit words place none = sym (shr_and_one (slice_index words (place / 64)) (place % 64)) ∙ none

@@ -9,7 +9,7 @@ use Rattle.worker_laws.specs.CellRounds.{IsSettled}
 use Rattle.worker_laws.specs.OneNode.{home}
 use Rattle.agent_cells.specs.declared.cell.Cell.{Cell}
 use Rattle.dcop_base.specs.Table.{has}
-use Rattle.agent_cells.specs.State.{state_of, begun_in, fault_in, IsCell, KeepsLinks}
+use Rattle.agent_cells.specs.State.{state_of, begun_in, fault_in, visits_in, IsCell, KeepsLinks}
 use Rattle.agent_workers.specs.Joined.{EachBecomes, HaveJoinedEnds}
 
 -- the list has the node of each agent at its place, for this many nodes and agents
@@ -32,6 +32,7 @@ module _ {X : Type 0} {F : X → Type 0} where
     pub links : KeepsLinks before after
     pub begun : begun_in after ≡ begun_in before
     pub fault : fault_in after ≡ fault_in before
+    pub visits : visits_in after ≡ visits_in before
 
   -- the link from one cell to another was settled; the first knows what it knew of its links, and
   -- so does the second of all other links

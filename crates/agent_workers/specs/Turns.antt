@@ -31,13 +31,13 @@ module _ {X : Type 0} {F : X → Type 0} where
     pub same : IsSameCell before after
     pub ready : IsReady meaning after
 
-  -- the turn of one cell, which took `count` messages: it was visited if it had not ended, and has
-  -- not changed if it had
+  -- a cell as its turn leaves it, which took `count` messages: as a visit leaves it if it had not
+  -- ended, and unchanged if it had
   pub record HasTurned (meaning : DynBox X Global F → View) (count : ℕ) (before after : Cell X F) : Type 0 where
     pub rests : ended_of (state_of meaning before).view ≡ true → (after ≡ before) × (count ≡ 0)
     pub visit : ended_of (state_of meaning before).view ≡ false → IsVisit (state_of meaning before) count (state_of meaning after) × (fault_in after ≡ None)
 
-  -- the same; or, if not all cells have to be visited, the cell has not changed and took nothing
+  -- the same; or, if not `all` cells have a turn, the cell has not changed and took nothing
   abbrev pub MayHaveTurned : (DynBox X Global F → View) → Bool → ℕ → Cell X F → Cell X F → Type 0
   MayHaveTurned meaning all count before after = HasTurned meaning count before after ⊎ ((all ≡ false) × (after ≡ before) × (count ≡ 0))
 
@@ -53,8 +53,8 @@ module _ {X : Type 0} {F : X → Type 0} where
     pub at : slice_get cells place ≡ Some cell
     pub is : fault_in cell ≡ Some fault
 
-  -- each of the first `done` cells had its turn, or was passed over if not all have to be visited,
-  -- and together they took `count` messages; no other cell has changed
+  -- each of the first `done` cells had its turn, or was passed over if not `all` have one, and
+  -- together they took `count` messages; no other cell has changed
   pub record AreTurning (meaning : DynBox X Global F → View) (all : Bool) (done count : ℕ) (before after : List (Cell X F)) : Type 0 where
     pub ready : EachBecomes (StaysReady meaning) before after
     pub turned : (i : ℕ) (a b : Cell X F) → slice_get before i ≡ Some a → slice_get after i ≡ Some b → i < done → (n : ℕ) × MayHaveTurned meaning all n a b

@@ -1,6 +1,6 @@
 //! Playing cells: turns, sprints of turns, and concurrent parts.
 
-ghost use Rattle.std.specs.Prelude.{◌≡◌, ◌≤◌, ◌<◌, ℕ, length, true, false, IfOk, OnOk, IfErr, None, Some};
+ghost use Rattle.std.specs.Prelude.{◌≡◌, ◌≤◌, ◌<◌, ℕ, Bool, length, true, false, IfOk, OnOk, IfErr, None, Some};
 ghost use Rattle.dcop_base.specs.Limits.{variable_limit};
 ghost use Rattle.protocol_steps.specs.Rounds.{most_events};
 ghost use Rattle.worker_laws.specs.Cells.{known_from};
@@ -9,7 +9,7 @@ ghost use Rattle.agent_cells.specs.Failed.{HasReachedEnd};
 ghost use Rattle.agent_cells.specs.State.{state_of, fault_in};
 ghost use Rattle.agent_workers.specs.Joined.{states_of, EachIs, EachBecomes};
 ghost use Rattle.agent_workers.specs.Turns.{visit_limit, sprint_limit, IsReady, StaysReady, HasTurned, SomeFailed, AreTurning, HavePlayed};
-ghost use Rattle.agent_workers.specs.Watched.{MarksReceivers, all_due, MarksWaiting, PassesUnmarked, IsPlayedInTurns};
+ghost use Rattle.agent_workers.specs.Watched.{MarksReceivers, all_due, MayBePassed, MarksWaiting, PassesUnmarked, IsPlayedInTurns};
 ghost use Rattle.agent_workers.specs.Shared.{ArePlayedInParts};
 ghost use Rattle.agent_workers.specs.Broken.{HasGoneOn, AreBrokenOff};
 
@@ -64,12 +64,12 @@ pub(crate) fn play_cells<R: Threads + Sync, G: Gate>(
 /// Plays a part: turn after turn, until one takes nothing, at most 32. Returns how many messages
 /// were taken.
 ///
-/// The clause `turns` says whom a turn visits. The first turn visits each cell that has not ended.
-/// So does each later turn, unless the part is `alone`: it has all cells, and during a round
-/// nothing is sent on a link except by visits of these cells. Then a turn passes over a cell only
-/// if nothing was sent to it since the turn before came to its place. Such a cell passes no gate.
-/// In the first turn of such a part a cell that knows of nothing passes none either: its links were
-/// settled just before, so a visit would find nothing.
+/// The clause `turns` says whom a turn visits. Each turn visits each cell that has not ended once,
+/// unless the part is `alone`: it has all cells, and during a round nothing is sent on a link
+/// except by visits of these cells. Then a turn passes over a cell only if nothing was sent to it
+/// since the turn before came to its place. The first turn passes over a cell only if nothing was
+/// sent to it in this turn, and the cell knows of nothing: its links were settled just before, so a
+/// visit would find nothing. A cell that is passed over passes no gate.
 ///
 /// The marks of a [`Watch`] decide this. A visit marks each agent to which it sends something, and
 /// only a cell's own turn takes its mark away.
@@ -78,7 +78,7 @@ pub(crate) fn play_cells<R: Threads + Sync, G: Gate>(
 /// these visits; so a part that is not `alone` visits all its cells in each turn. And a visit need
 /// not find what was sent before it: it takes at least what its cell knows to wait, and the
 /// settling of the next round shows what is left. A visit that finds nothing leaves the cell as it
-/// was, so contracts tell it from no visit only by what the cell knows.
+/// was; contracts tell it from no visit by the number of visits, which only proofs know.
 pub(crate) fn play_part<G: Gate>(
     gate: &G,
     alone: bool,
@@ -96,7 +96,7 @@ pub(crate) fn play_part<G: Gate>(
     let mut watch = Watch::new();
     let mut taken = 0;
     for turn in 0..MOST_TURNS {
-        let all = visits_all(turn, alone);
+        let all = goes_to_all(turn, alone);
         let more = take_turn(gate, all, alone, &mut watch, cells)?;
         taken += more;
         if more == 0 {
@@ -106,18 +106,19 @@ pub(crate) fn play_part<G: Gate>(
     Ok(taken)
 }
 
-/// Whether this turn visits all cells that have not ended. The first turn does. If the part is not
-/// `alone`, each turn does, since something may arrive for any cell at any time.
-fn visits_all(turn: usize, alone: bool) -> bool
+/// Whether this turn goes to all cells that have not ended, marked or not. The first turn does. If
+/// the part is not `alone`, each turn does, since something may arrive for any cell at any time.
+fn goes_to_all(turn: usize, alone: bool) -> bool
     ensures first { turn ≡ 0 → result ≡ true }
     ensures due { result ≡ all_due turn alone }
 {
     turn == 0 || !alone
 }
 
-/// Plays a turn: visits each cell that has not ended once, in order. If not `all` are to be
-/// visited, it visits only those that are marked. If the part is `alone` and all are visited, every
-/// link was settled just before. Returns how many messages were taken.
+/// Plays a turn: visits each cell that has not ended once, in order. If it does not go to `all`, it
+/// visits only those that are marked. If it does and the part is `alone`, every link was settled
+/// just before, and it passes over unmarked cells that know of nothing. Returns how many messages
+/// were taken.
 fn take_turn<G: Gate>(
     gate: &G,
     all: bool,
@@ -129,7 +130,7 @@ fn take_turn<G: Gate>(
     requires few { length cells.old ≤ variable_limit }
     ensures ready { EachBecomes (λ a b. StaysReady (λ b. meaning (b.vtable, b.value)) a b) cells.old cells.new }
     ensures ok { IfOk result (λ n. AreTurning (λ b. meaning (b.vtable, b.value)) all (length cells.old) n cells.old cells.new) }
-    ensures turn { OnOk result (PassesUnmarked (λ b. meaning (b.vtable, b.value)) all watch.old.waits (length cells.old) cells.old cells.new) }
+    ensures turn { OnOk result (PassesUnmarked (λ b. meaning (b.vtable, b.value)) all alone watch.old.waits (length cells.old) cells.old cells.new) }
     ensures marks { OnOk result (MarksWaiting (λ b. meaning (b.vtable, b.value)) watch.new.waits (length cells.old) cells.old cells.new) }
     ensures err { IfErr result (λ f. SomeFailed f cells.new) }
     ensures end { IfErr result (λ f. f ≡ stamp_end → EachIs (λ c. fault_in c ≡ None) cells.old
@@ -154,6 +155,7 @@ fn visit_all<G: Gate>(
     requires few { length cells.old ≤ variable_limit }
     ensures ready { EachBecomes (λ a b. StaysReady (λ b. meaning (b.vtable, b.value)) a b) cells.old cells.new }
     ensures ok { IfOk result (λ n. AreTurning (λ b. meaning (b.vtable, b.value)) true (length cells.old) n cells.old cells.new) }
+    ensures turn { OnOk result (PassesUnmarked (λ b. meaning (b.vtable, b.value)) true settled watch.old.waits (length cells.old) cells.old cells.new) }
     ensures marks { OnOk result (MarksWaiting (λ b. meaning (b.vtable, b.value)) watch.new.waits (length cells.old) cells.old cells.new) }
     ensures err { IfErr result (λ f. SomeFailed f cells.new) }
     ensures end { IfErr result (λ f. f ≡ stamp_end → EachIs (λ c. fault_in c ≡ None) cells.old
@@ -177,7 +179,7 @@ fn visit_waiting<G: Gate>(
     requires few { length cells.old ≤ variable_limit }
     ensures ready { EachBecomes (λ a b. StaysReady (λ b. meaning (b.vtable, b.value)) a b) cells.old cells.new }
     ensures ok { IfOk result (λ n. AreTurning (λ b. meaning (b.vtable, b.value)) false (length cells.old) n cells.old cells.new) }
-    ensures turn { OnOk result (PassesUnmarked (λ b. meaning (b.vtable, b.value)) false watch.old.waits (length cells.old) cells.old cells.new) }
+    ensures turn { (alone : Bool) → OnOk result (PassesUnmarked (λ b. meaning (b.vtable, b.value)) false alone watch.old.waits (length cells.old) cells.old cells.new) }
     ensures marks { OnOk result (MarksWaiting (λ b. meaning (b.vtable, b.value)) watch.new.waits (length cells.old) cells.old cells.new) }
     ensures err { IfErr result (λ f. SomeFailed f cells.new) }
     ensures end { IfErr result (λ f. f ≡ stamp_end → EachIs (λ c. fault_in c ≡ None) cells.old
@@ -203,8 +205,10 @@ fn visit_once<G: Gate>(
     cell: &mut Cell,
 ) -> Result<u64, VisitFault>
     requires ready { IsReady (λ b. meaning (b.vtable, b.value)) cell.old }
+    requires inside { place < variable_limit }
     ensures ready { StaysReady (λ b. meaning (b.vtable, b.value)) cell.old cell.new }
     ensures ok { IfOk result (λ n. HasTurned (λ b. meaning (b.vtable, b.value)) n cell.old cell.new) }
+    ensures turn { OnOk result (MayBePassed (λ b. meaning (b.vtable, b.value)) known watch.old.waits place cell.old cell.new) }
     ensures marks { OnOk result (MarksReceivers place watch.old.waits watch.new.waits
         (state_of (λ b. meaning (b.vtable, b.value)) cell.old).sent (state_of (λ b. meaning (b.vtable, b.value)) cell.new).sent) }
     ensures err { IfErr result (λ f. fault_in cell.new ≡ Some f) }
@@ -227,6 +231,7 @@ fn visit_once<G: Gate>(
 
 /// Whether nothing waits for a cell that knows all that waits for it; false if that is not `known`.
 fn is_idle(known: bool, cell: &Cell) -> bool
+    ensures known { result ≡ true → known ≡ true }
     ensures fine { result ≡ true → fault_in cell.now ≡ None }
     ensures none { result ≡ true → (j : ℕ) → known_from j (state_of (λ b. meaning (b.vtable, b.value)) cell.now).known ≡ 0 }
 {

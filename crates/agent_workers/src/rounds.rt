@@ -34,9 +34,10 @@ pub type CellsList = Vec<Cell>;
 ///
 /// The clause `parts` says in which parts the cells were played, and whom the turns of each part
 /// visit. A part that has not all cells visits each of them in each turn. A single part passes over
-/// a cell in a turn after the first only if nothing was sent to it since the turn before came to
-/// its place. The clause `turns` says this of one worker. What one part sends to another during a
-/// turn has no place in the order of the visits, so no clause speaks of it.
+/// a cell only if nothing was sent to it since the turn before came to its place; in the first
+/// turn, only if nothing was sent to it in this turn and it knows of nothing. The clause `turns`
+/// says this of one worker. What one part sends to another during a turn has no place in the order
+/// of the visits, so no clause speaks of it.
 ///
 /// After a fault the cells are as their visits left them, and a cell has failed with this fault.
 pub fn round<R: Threads + Sync, G: Gate>(

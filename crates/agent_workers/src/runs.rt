@@ -26,7 +26,7 @@ use std::thread::{Threads, available_parallelism};
 /// run has ended under this budget of deliveries. At most `workers` workers play a round, and no
 /// more than there are processors, but two if two are asked for. They share each round for which
 /// enough work waits, and one worker plays the others. It allocates memory; after [`NoMemory`] the
-/// cells are as their visits left them.
+/// cells are as their visits left them: each is still a sound cell of its agent, with its links.
 ///
 /// The budget is compared after the start and after each round, and not within a round. The run
 /// ends, with its number of deliveries, when every agent has ended; or one has not and the
@@ -46,6 +46,8 @@ pub fn run<R: Threads + Sync, G: Gate>(
     requires joined { AreCellsJoined (λ b. meaning (b.vtable, b.value)) 1 cells.old.items }
     requires sound { EachIs (λ c. IsCell (λ b. meaning (b.vtable, b.value)) c) cells.old.items }
     requires fresh { EachIs (λ c. begun_in c ≡ false) cells.old.items }
+    ensures same { EachBecomes (λ a b. IsSameCell a b) cells.old.items cells.new.items }
+    ensures sound { EachIs (λ c. IsCell (λ b. meaning (b.vtable, b.value)) c) cells.new.items }
     ensures run { IfOk result (λ end. MakesARun budget (views_of (λ b. meaning (b.vtable, b.value)) cells.old.items)
         (states_of (λ b. meaning (b.vtable, b.value)) cells.new.items) end) }
     ensures rounds { OnOk result (AreDulyPlayed budget (views_of (λ b. meaning (b.vtable, b.value)) cells.old.items) (states_of (λ b. meaning (b.vtable, b.value)) cells.new.items)) }
@@ -69,6 +71,8 @@ fn run_all<R: Threads + Sync, G: Gate>(
     requires joined { AreCellsJoined (λ b. meaning (b.vtable, b.value)) 1 cells.old }
     requires sound { EachIs (λ c. IsCell (λ b. meaning (b.vtable, b.value)) c) cells.old }
     requires fresh { EachIs (λ c. begun_in c ≡ false) cells.old }
+    ensures same { EachBecomes (λ a b. IsSameCell a b) cells.old cells.new }
+    ensures sound { EachIs (λ c. IsCell (λ b. meaning (b.vtable, b.value)) c) cells.new }
     ensures run { IfOk result (λ end. MakesARun budget (views_of (λ b. meaning (b.vtable, b.value)) cells.old)
         (states_of (λ b. meaning (b.vtable, b.value)) cells.new) end) }
     ensures rounds { OnOk result (AreDulyPlayed budget (views_of (λ b. meaning (b.vtable, b.value)) cells.old) (states_of (λ b. meaning (b.vtable, b.value)) cells.new)) }
@@ -107,6 +111,7 @@ fn play_out<R: Threads + Sync, G: Gate>(
     requires none { total (states_of (λ b. meaning (b.vtable, b.value)) cells.old) ≡ 0 }
     ensures joined { AreCellsJoined (λ b. meaning (b.vtable, b.value)) 1 cells.new }
     ensures begun { EachIs (λ c. HasBegun (λ b. meaning (b.vtable, b.value)) c) cells.new }
+    ensures same { EachBecomes (λ a b. IsSameCell a b) cells.old cells.new }
     ensures played { IfOk result (λ end. ArePlayedOut budget (states_of (λ b. meaning (b.vtable, b.value)) cells.old)
         (states_of (λ b. meaning (b.vtable, b.value)) cells.new) end) }
     ensures still { IfOk result (λ end. AtStill end (AreIdle budget (states_of (λ b. meaning (b.vtable, b.value)) cells.old)
@@ -162,11 +167,12 @@ pub fn all_ended(cells: &[Cell]) -> bool
 }
 
 /// Starts the agents of all cells, in order. It allocates memory; after [`NoMemory`] some agents
-/// may have started.
+/// may have started, and each cell is still sound.
 pub fn begin_all(cells: &mut [Cell]) -> Result<(), NoMemory>
     requires sound { EachIs (λ c. IsCell (λ b. meaning (b.vtable, b.value)) c) cells.old }
     requires fresh { EachIs (λ c. begun_in c ≡ false) cells.old }
     ensures same { EachBecomes (λ a b. IsSameCell a b) cells.old cells.new }
+    ensures sound { EachIs (λ c. IsCell (λ b. meaning (b.vtable, b.value)) c) cells.new }
     ensures started { OnOk result (EachBecomes (λ a b. HasStarted (λ b. meaning (b.vtable, b.value)) a b) cells.old cells.new) }
 {
     for cell in cells.iter_mut() {
@@ -180,6 +186,7 @@ fn begin_once(cell: &mut Cell) -> Result<(), NoMemory>
     requires sound { IsCell (λ b. meaning (b.vtable, b.value)) cell.old }
     requires fresh { begun_in cell.old ≡ false }
     ensures same { IsSameCell cell.old cell.new }
+    ensures sound { IsCell (λ b. meaning (b.vtable, b.value)) cell.new }
     ensures started { OnOk result (HasStarted (λ b. meaning (b.vtable, b.value)) cell.old cell.new) }
 {
     cell.begin()

@@ -75,7 +75,8 @@ impl Watch {
     /// Takes away the mark of the cell at this place, which is visited. Returns whether there was
     /// one.
     pub(crate) fn look(&mut self, place: usize) -> bool
-        ensures { (k : ℕ) → k ≢ place → IsUnmarked self.new.waits k → IsUnmarked self.old.waits k }
+        ensures kept { (k : ℕ) → k ≢ place → IsUnmarked self.new.waits k → IsUnmarked self.old.waits k }
+        ensures here { place < variable_limit → result ≡ false → IsUnmarked self.old.waits place }
     {
         let marked = self.is_marked(place);
         if place < MAX_VARIABLES {
@@ -85,7 +86,9 @@ impl Watch {
     }
 
     /// Whether the cell at this place is marked.
-    fn is_marked(&self, place: usize) -> bool {
+    fn is_marked(&self, place: usize) -> bool
+        ensures { place < variable_limit → result ≡ false → IsUnmarked self.now.waits place }
+    {
         place < MAX_VARIABLES && self.waits[place / BITS] >> (place % BITS) & 1 != 0
     }
 

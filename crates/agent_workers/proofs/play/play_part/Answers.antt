@@ -24,18 +24,18 @@ returns-then-more-eq0-clause-ready g c = each_ready_then (λ b. (goal.Machine-dy
 pub returns-then-more-eq0-clause-ok : goal.returns-then-more-eq0-clause-ok
 returns-then-more-eq0-clause-ok g c = let t = c.loop-turn-test.true in
     played_by (λ b. (goal.Machine-dyn g (b.vtable, b.value)).meaning b.value) (c.loop-turn.turn + 1) (c.loop-turn.taken + c.in_ok-more.more) c.args.cells.now c.take_turn.new.cells (omega arith) (omega (arith, t))
-    (sprint_more (λ b. (goal.Machine-dyn g (b.vtable, b.value)).meaning b.value) c.visits_all-all.result c.loop-turn.turn c.loop-turn.taken c.in_ok-more.more c.args.cells.now c.loop-turn.cells c.take_turn.new.cells c.visits_all-all.ensures.first c.loop-turn.invariant.0 c.in_ok-more.ensures.ok)
+    (sprint_more (λ b. (goal.Machine-dyn g (b.vtable, b.value)).meaning b.value) c.goes_to_all-all.result c.loop-turn.turn c.loop-turn.taken c.in_ok-more.more c.args.cells.now c.loop-turn.cells c.take_turn.new.cells c.goes_to_all-all.ensures.first c.loop-turn.invariant.0 c.in_ok-more.ensures.ok)
 
 pub loop-turn-preserved : goal.loop-turn-preserved
 loop-turn-preserved g c = (
-  sprint_more (λ b. (goal.Machine-dyn g (b.vtable, b.value)).meaning b.value) c.visits_all-all.result c.loop-turn.turn c.loop-turn.taken c.in_ok-more.more c.args.cells.now c.loop-turn.cells c.take_turn.new.cells c.visits_all-all.ensures.first c.loop-turn.invariant.0 c.in_ok-more.ensures.ok,
-  one_turn_more (λ b. (goal.Machine-dyn g (b.vtable, b.value)).meaning b.value) c.visits_all-all.result c.args.alone c.loop-turn.turn c.loop-turn.watch.waits c.take_turn.new.watch.waits c.args.cells.now c.loop-turn.cells c.take_turn.new.cells c.visits_all-all.ensures.due
-      c.in_ok-more.ensures.ok.ready.size c.in_ok-more.ensures.turn c.in_ok-more.ensures.marks c.loop-turn.invariant.1,
+  sprint_more (λ b. (goal.Machine-dyn g (b.vtable, b.value)).meaning b.value) c.goes_to_all-all.result c.loop-turn.turn c.loop-turn.taken c.in_ok-more.more c.args.cells.now c.loop-turn.cells c.take_turn.new.cells c.goes_to_all-all.ensures.first c.loop-turn.invariant.0 c.in_ok-more.ensures.ok,
+  one_turn_more (λ b. (goal.Machine-dyn g (b.vtable, b.value)).meaning b.value) c.goes_to_all-all.result c.args.alone c.loop-turn.turn c.loop-turn.watch.waits c.take_turn.new.watch.waits c.args.cells.now c.loop-turn.cells c.take_turn.new.cells c.goes_to_all-all.ensures.due
+      c.in_ok-more.ensures.ok.ready.size c.in_ok-more.ensures.turn c.in_ok-more.ensures.marks (let some = c.if-more-eq0.false in let counted = c.in_ok-more.ensures.ok.counted in omega (arith, some, counted)) c.loop-turn.invariant.1,
 )
 
 pub returns-then-more-eq0-clause-turns : goal.returns-then-more-eq0-clause-turns
 returns-then-more-eq0-clause-turns g c =
-    still_part (λ b. (goal.Machine-dyn g (b.vtable, b.value)).meaning b.value) c.visits_all-all.result c.args.alone c.loop-turn.turn c.loop-turn.watch.waits c.args.cells.now c.loop-turn.cells c.take_turn.new.cells c.visits_all-all.ensures.due c.in_ok-more.ensures.ok.ready.size c.in_ok-more.ensures.turn c.loop-turn-test.true
+    still_part (λ b. (goal.Machine-dyn g (b.vtable, b.value)).meaning b.value) c.goes_to_all-all.result c.args.alone c.loop-turn.turn c.loop-turn.watch.waits c.args.cells.now c.loop-turn.cells c.take_turn.new.cells c.goes_to_all-all.ensures.due c.in_ok-more.ensures.ok.ready.size c.in_ok-more.ensures.turn c.loop-turn-test.true
     (let none = c.if-more-eq0.true in let counted = c.in_ok-more.ensures.ok.counted in omega (arith, none, counted)) c.loop-turn.invariant.1
 
 pub returns-clause-turns : goal.returns-clause-turns

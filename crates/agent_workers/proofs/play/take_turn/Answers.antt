@@ -1,14 +1,13 @@
-use Rattle.agent_workers.proofs.TurnLaws.{visited_on}
 use Rattle.agent_workers.proofs.play.take_turn.Goals as goal
 
 pub returns-then-all-clause-ok : goal.returns-then-all-clause-ok
 returns-then-all-clause-ok g c = rw c.if-all.true c.visit_all.ensures.ok
 
 pub returns-then-all-clause-turn : goal.returns-then-all-clause-turn
-returns-then-all-clause-turn g c = visited_on (λ b. (goal.Machine-dyn g (b.vtable, b.value)).meaning b.value) c.args.all c.args.watch.now.waits c.args.cells.now c.visit_all.new.cells c.visit_all.result c.visit_all.ensures.ok
+returns-then-all-clause-turn g c = rw c.if-all.true c.visit_all.ensures.turn
 
 pub returns-clause-ok : goal.returns-clause-ok
 returns-clause-ok g c = rw c.if-all.false c.visit_waiting.ensures.ok
 
 pub returns-clause-turn : goal.returns-clause-turn
-returns-clause-turn g c = rw c.if-all.false c.visit_waiting.ensures.turn
+returns-clause-turn g c = rw c.if-all.false (c.visit_waiting.ensures.turn c.args.alone)

@@ -1,4 +1,4 @@
-use Rattle.std.proofs.Common.{◌≡◌, true, None, inl, set, arith}
+use Rattle.std.proofs.Common.{◌≡◌, true, None, inl, inr, refl, set, arith}
 use Rattle.agent_cells.specs.declared.fault.VisitFault.TheVariants.{StampEnd}
 use Rattle.agent_cells.specs.State.{fault_in}
 use Rattle.agent_workers.specs.Joined.{states_of, EachIs}
@@ -6,11 +6,11 @@ use Rattle.agent_workers.specs.Turns.{visit_limit}
 use Rattle.agent_workers.specs.Broken.{HasGoneOn, AreBrokenOff}
 use Rattle.agent_workers.proofs.BreakLaws.{err_on, turn_broken}
 use Rattle.agent_workers.proofs.PlayLaws.{turn_none, turn_more, turn_ready, ready_at, failed_set, failed_on}
-use Rattle.agent_workers.proofs.TurnLaws.{waiting_none, waiting_more, waiting_past}
+use Rattle.agent_workers.proofs.TurnLaws.{waiting_none, waiting_more, waiting_past, passing_none, passing_more, passing_all}
 use Rattle.agent_workers.proofs.play.visit_all.Goals as goal
 
 pub loop-place-init : goal.loop-place-init
-loop-place-init g c = (turn_none (λ b. (goal.Machine-dyn g (b.vtable, b.value)).meaning b.value) true c.args.cells.now c.requires.ready, waiting_none (λ b. (goal.Machine-dyn g (b.vtable, b.value)).meaning b.value) _ c.args.cells.now)
+loop-place-init g c = (turn_none (λ b. (goal.Machine-dyn g (b.vtable, b.value)).meaning b.value) true c.args.cells.now c.requires.ready, waiting_none (λ b. (goal.Machine-dyn g (b.vtable, b.value)).meaning b.value) c.args.watch.now.waits c.args.cells.now, passing_none (λ b. (goal.Machine-dyn g (b.vtable, b.value)).meaning b.value) true c.args.settled c.args.watch.now.waits c.args.cells.now)
 
 pub visit_once-requires-clause-ready : goal.visit_once-requires-clause-ready
 visit_once-requires-clause-ready g c κs within =
@@ -31,7 +31,12 @@ loop-place-preserved g c = (
       c.visit_once.ensures.ready (inl c.in_ok-taken.ensures.ok),
   waiting_more (λ b. (goal.Machine-dyn g (b.vtable, b.value)).meaning b.value) c.loop-place.watch.waits c.visit_once.new.watch.waits c.loop-place.place c.loop-place.place c.args.cells.now c.loop-place.cells c.index-cells-place.result c.visit_once.new.cell (omega arith) (let test = c.loop-place-test.true in let size = c.loop-place.invariant.0.ready.size in omega (arith, test, size))
       (let size = c.loop-place.invariant.0.ready.size in let few = c.requires.few in omega (arith, size, few)) c.loop-place.invariant.0.ready.size c.loop-place.invariant.0.rest c.loop-place.invariant.1 c.in_ok-taken.ensures.marks,
+  passing_more (λ b. (goal.Machine-dyn g (b.vtable, b.value)).meaning b.value) true c.args.settled c.args.watch.now.waits c.loop-place.watch.waits c.visit_once.new.watch.waits c.loop-place.place c.args.cells.now c.loop-place.cells c.index-cells-place.result c.visit_once.new.cell (let test = c.loop-place-test.true in let size = c.loop-place.invariant.0.ready.size in omega (arith, test, size))
+      (let size = c.loop-place.invariant.0.ready.size in let few = c.requires.few in omega (arith, size, few)) c.loop-place.invariant.0.ready.size c.loop-place.invariant.0.rest c.in_ok-taken.ensures.marks (inr (refl, c.in_ok-taken.ensures.turn)) c.loop-place.invariant.2,
 )
+
+pub returns-clause-turn : goal.returns-clause-turn
+returns-clause-turn g c = passing_all (λ b. (goal.Machine-dyn g (b.vtable, b.value)).meaning b.value) true c.args.settled c.args.watch.now.waits c.loop-place.watch.waits c.loop-place.place c.args.cells.now c.loop-place.cells (let test = c.loop-place-test.false in let size = c.loop-place.invariant.0.ready.size in omega (arith, test, size)) c.loop-place.invariant.2
 
 pub returns-clause-marks : goal.returns-clause-marks
 returns-clause-marks g c = waiting_past (λ b. (goal.Machine-dyn g (b.vtable, b.value)).meaning b.value) c.loop-place.watch.waits c.loop-place.place _ c.args.cells.now c.loop-place.cells c.loop-place.invariant.0.ready.size c.loop-place.invariant.0.rest c.loop-place.invariant.1

@@ -1,18 +1,30 @@
-use Rattle.std.proofs.Common.{refl}
-use Rattle.agent_workers.proofs.CellLaws.{idle_turn}
+use Rattle.std.proofs.Common.{refl, sym, ◌∙◌, inl, inr}
+use Rattle.agent_workers.proofs.CellLaws.{idle_turn, ended_once, not_true, not_both}
 use Rattle.agent_workers.proofs.SentLaws.{visit_marks, quiet_marks}
 use Rattle.agent_workers.proofs.play.visit_once.Goals as goal
+use Rattle.agent_workers.proofs.play.visit_once.Goals.{then-known, else-known}
 
 pub returns-then-is_idle-clause-ok : goal.returns-then-is_idle-clause-ok
 returns-then-is_idle-clause-ok g c = idle_turn (λ b. (goal.Machine-dyn g (b.vtable, b.value)).meaning b.value) c.args.cell.now (c.is_idle.ensures.fine c.if-is_idle.true) (c.is_idle.ensures.none c.if-is_idle.true)
 
 pub returns-then-is_idle-clause-marks : goal.returns-then-is_idle-clause-marks
-returns-then-is_idle-clause-marks g c = quiet_marks (λ b. (goal.Machine-dyn g (b.vtable, b.value)).meaning b.value) c.args.place c.args.watch.now.waits c.look-marked.new.self.waits c.args.cell.now c.args.cell.now c.look-marked.ensures refl
+returns-then-is_idle-clause-marks g c = quiet_marks (λ b. (goal.Machine-dyn g (b.vtable, b.value)).meaning b.value) c.args.place c.args.watch.now.waits c.look-marked.new.self.waits c.args.cell.now c.args.cell.now c.look-marked.ensures.kept refl
 
 pub returns-then-ended-clause-marks : goal.returns-then-ended-clause-marks
-returns-then-ended-clause-marks g c = quiet_marks (λ b. (goal.Machine-dyn g (b.vtable, b.value)).meaning b.value) c.args.place c.args.watch.now.waits c.look-marked.new.self.waits c.args.cell.now c.args.cell.now c.look-marked.ensures refl
+returns-then-ended-clause-marks g c = quiet_marks (λ b. (goal.Machine-dyn g (b.vtable, b.value)).meaning b.value) c.args.place c.args.watch.now.waits c.look-marked.new.self.waits c.args.cell.now c.args.cell.now c.look-marked.ensures.kept refl
 
 pub returns-then-taken-gt0-clause-marks : goal.returns-then-taken-gt0-clause-marks
 returns-then-taken-gt0-clause-marks g c =
-    visit_marks (λ b. (goal.Machine-dyn g (b.vtable, b.value)).meaning b.value) c.args.place c.args.watch.now.waits c.look-marked.new.self.waits c.keep.new.self.waits c.visit_marking.new.marks c.args.cell.now c.visit_marking.new.self c.visit_marking.ensures.links c.visit_marking.ensures.cell c.look-marked.ensures
+    visit_marks (λ b. (goal.Machine-dyn g (b.vtable, b.value)).meaning b.value) c.args.place c.args.watch.now.waits c.look-marked.new.self.waits c.keep.new.self.waits c.visit_marking.new.marks c.args.cell.now c.visit_marking.new.self c.visit_marking.ensures.links c.visit_marking.ensures.cell c.look-marked.ensures.kept
     c.in_ok-taken.ensures.marked c.keep.ensures.kept c.keep.ensures.sent
+
+pub returns-then-is_idle-clause-turn : goal.returns-then-is_idle-clause-turn
+returns-then-is_idle-clause-turn g c =
+    let idle = c.is_idle.ensures.known c.if-is_idle.true in
+    elim c.if-known.branch [
+      | then-known w ↦ inr (w.if-known.true, refl, record { none = c.is_idle.ensures.none c.if-is_idle.true }, c.look-marked.ensures.here c.requires.inside (not_true c.look-marked.result _ w.is_idle-is idle))
+      | else-known w ↦ absurd (not_both _ (w.is_idle-is ∙ w.if-known.false) idle)
+    ]
+
+pub returns-then-ended-clause-turn : goal.returns-then-ended-clause-turn
+returns-then-ended-clause-turn g c = inl (ended_once (λ b. (goal.Machine-dyn g (b.vtable, b.value)).meaning b.value) c.args.cell.now (sym c.ended.ensures ∙ c.if-ended.true))

@@ -7,11 +7,11 @@ use Rattle.agent_workers.specs.Broken.{HasGoneOn, AreBrokenOff}
 use Rattle.agent_workers.proofs.BreakLaws.{err_on, turn_broken}
 use Rattle.agent_workers.proofs.PlayLaws.{turn_none, turn_more, turn_past, turn_ready, ready_at, failed_set, failed_on}
 use Rattle.agent_workers.specs.Watched.{AreCellsUnmarked}
-use Rattle.agent_workers.proofs.TurnLaws.{waiting_none, waiting_more, waiting_past, passing_none, passing_past, passing_more}
+use Rattle.agent_workers.proofs.TurnLaws.{waiting_none, waiting_more, waiting_past, passing_none, passing_past, passing_more, visited_only}
 use Rattle.agent_workers.proofs.play.visit_waiting.Goals as goal
 
 pub loop-place-init : goal.loop-place-init
-loop-place-init g c = (turn_none (λ b. (goal.Machine-dyn g (b.vtable, b.value)).meaning b.value) false c.args.cells.now c.requires.ready, omega arith, waiting_none (λ b. (goal.Machine-dyn g (b.vtable, b.value)).meaning b.value) c.args.watch.now.waits c.args.cells.now, passing_none (λ b. (goal.Machine-dyn g (b.vtable, b.value)).meaning b.value) c.args.watch.now.waits c.args.cells.now)
+loop-place-init g c = (turn_none (λ b. (goal.Machine-dyn g (b.vtable, b.value)).meaning b.value) false c.args.cells.now c.requires.ready, omega arith, waiting_none (λ b. (goal.Machine-dyn g (b.vtable, b.value)).meaning b.value) c.args.watch.now.waits c.args.cells.now, λ alone. passing_none (λ b. (goal.Machine-dyn g (b.vtable, b.value)).meaning b.value) false alone c.args.watch.now.waits c.args.cells.now)
 
 pub visit_once-requires-clause-ready : goal.visit_once-requires-clause-ready
 visit_once-requires-clause-ready g c κs within =
@@ -33,18 +33,18 @@ loop-place-preserved g c = (
   (let lt = c.in-Some.ensures.within.1 in let size = c.loop-place.invariant.0.ready.size in omega (arith, lt, size)),
   waiting_more (λ b. (goal.Machine-dyn g (b.vtable, b.value)).meaning b.value) c.loop-place.watch.waits c.visit_once.new.watch.waits c.loop-place.from c.in-Some.place c.args.cells.now c.loop-place.cells c.index-cells-place.result c.visit_once.new.cell c.in-Some.ensures.within.0 c.in-Some.ensures.within.1
       (let size = c.loop-place.invariant.0.ready.size in let few = c.requires.few in omega (arith, size, few)) c.loop-place.invariant.0.ready.size c.loop-place.invariant.0.rest c.loop-place.invariant.2 c.in_ok-taken.ensures.marks,
-  passing_more (λ b. (goal.Machine-dyn g (b.vtable, b.value)).meaning b.value) c.args.watch.now.waits c.loop-place.watch.waits c.visit_once.new.watch.waits c.in-Some.place c.args.cells.now c.loop-place.cells c.index-cells-place.result c.visit_once.new.cell c.in-Some.ensures.within.1
-      (let size = c.loop-place.invariant.0.ready.size in let few = c.requires.few in omega (arith, size, few)) c.loop-place.invariant.0.ready.size (λ j a b e f le. c.loop-place.invariant.0.rest j a b e f (let low = c.in-Some.ensures.within.0 in omega (arith, low, le))) c.in_ok-taken.ensures.marks (c.in_ok-taken.field-0, c.in_ok-taken.ensures.ok)
-      (passing_past (λ b. (goal.Machine-dyn g (b.vtable, b.value)).meaning b.value) c.args.watch.now.waits c.loop-place.watch.waits c.loop-place.from c.in-Some.place c.args.cells.now c.loop-place.cells c.in-Some.ensures.within.0 c.loop-place.invariant.0.ready.size c.in-Some.ensures.passed c.loop-place.invariant.0.rest c.loop-place.invariant.3),
+  λ alone. passing_more (λ b. (goal.Machine-dyn g (b.vtable, b.value)).meaning b.value) false alone c.args.watch.now.waits c.loop-place.watch.waits c.visit_once.new.watch.waits c.in-Some.place c.args.cells.now c.loop-place.cells c.index-cells-place.result c.visit_once.new.cell c.in-Some.ensures.within.1
+      (let size = c.loop-place.invariant.0.ready.size in let few = c.requires.few in omega (arith, size, few)) c.loop-place.invariant.0.ready.size (λ j a b e f le. c.loop-place.invariant.0.rest j a b e f (let low = c.in-Some.ensures.within.0 in omega (arith, low, le))) c.in_ok-taken.ensures.marks (inl (visited_only (λ b. (goal.Machine-dyn g (b.vtable, b.value)).meaning b.value) c.loop-place.watch.waits c.in-Some.place _ _ c.in_ok-taken.ensures.turn))
+      (passing_past (λ b. (goal.Machine-dyn g (b.vtable, b.value)).meaning b.value) alone c.args.watch.now.waits c.loop-place.watch.waits c.loop-place.from c.in-Some.place c.args.cells.now c.loop-place.cells c.in-Some.ensures.within.0 c.loop-place.invariant.0.ready.size c.in-Some.ensures.passed c.loop-place.invariant.0.rest (c.loop-place.invariant.3 alone)),
 )
 
 pub returns-clause-ok : goal.returns-clause-ok
 returns-clause-ok g c = let size = c.loop-place.invariant.0.ready.size in turn_past (λ b. (goal.Machine-dyn g (b.vtable, b.value)).meaning b.value) c.loop-place.from (length c.args.cells.now) c.loop-place.taken c.args.cells.now c.loop-place.cells c.loop-place.invariant.1 c.loop-place.invariant.0
 
 pub returns-clause-turn : goal.returns-clause-turn
-returns-clause-turn g c =
-    (passing_past (λ b. (goal.Machine-dyn g (b.vtable, b.value)).meaning b.value) c.args.watch.now.waits c.loop-place.watch.waits c.loop-place.from (length c.args.cells.now) c.args.cells.now c.loop-place.cells c.loop-place.invariant.1 c.loop-place.invariant.0.ready.size
-    (subst (λ n. AreCellsUnmarked c.loop-place.watch.waits c.loop-place.from n) c.loop-place.invariant.0.ready.size c.in_default.ensures.passed) c.loop-place.invariant.0.rest c.loop-place.invariant.3).passed
+returns-clause-turn g c = λ alone.
+    (passing_past (λ b. (goal.Machine-dyn g (b.vtable, b.value)).meaning b.value) alone c.args.watch.now.waits c.loop-place.watch.waits c.loop-place.from (length c.args.cells.now) c.args.cells.now c.loop-place.cells c.loop-place.invariant.1 c.loop-place.invariant.0.ready.size
+    (subst (λ n. AreCellsUnmarked c.loop-place.watch.waits c.loop-place.from n) c.loop-place.invariant.0.ready.size c.in_default.ensures.passed) c.loop-place.invariant.0.rest (c.loop-place.invariant.3 alone)).passed
 
 pub returns-clause-marks : goal.returns-clause-marks
 returns-clause-marks g c = waiting_past (λ b. (goal.Machine-dyn g (b.vtable, b.value)).meaning b.value) c.loop-place.watch.waits c.loop-place.from (length c.args.cells.now) c.args.cells.now c.loop-place.cells c.loop-place.invariant.0.ready.size c.loop-place.invariant.0.rest c.loop-place.invariant.2

@@ -1,5 +1,5 @@
 use Rattle.std.proofs.Common.{arith}
-use Rattle.agent_workers.proofs.RunLaws.{start_none, sound_at, fresh_at, same_more, start_more, start_all}
+use Rattle.agent_workers.proofs.RunLaws.{start_none, sound_at, fresh_at, same_more, sound_so_far, sound_more, start_more, start_all}
 use Rattle.agent_workers.proofs.runs.begin_all.Goals as goal
 
 pub loop-cell-init : goal.loop-cell-init
@@ -23,3 +23,10 @@ returns-in_err-begin_once-clause-same g c = let test = c.loop-cell-test.true in 
 
 pub returns-clause-started : goal.returns-clause-started
 returns-clause-started g c = let test = c.loop-cell-test.false in start_all (λ b. (goal.Machine-dyn g (b.vtable, b.value)).meaning b.value) c.loop-cell.cell-index c.args.cells.now c.loop-cell.cells (omega (arith, test)) c.loop-cell.invariant
+
+pub returns-in_err-begin_once-clause-sound : goal.returns-in_err-begin_once-clause-sound
+returns-in_err-begin_once-clause-sound g c = let test = c.loop-cell-test.true in let size = c.loop-cell.invariant.same.size in
+    sound_more (λ b. (goal.Machine-dyn g (b.vtable, b.value)).meaning b.value) c.loop-cell.cell-index c.args.cells.now c.loop-cell.cells c.begin_once.new.cell c.loop-cell.invariant (omega (arith, test, size)) c.requires.sound c.begin_once.ensures.sound
+
+pub returns-clause-sound : goal.returns-clause-sound
+returns-clause-sound g c = sound_so_far (λ b. (goal.Machine-dyn g (b.vtable, b.value)).meaning b.value) c.loop-cell.cell-index c.args.cells.now c.loop-cell.cells c.loop-cell.invariant c.requires.sound

@@ -4,13 +4,14 @@ use Rattle.agent_cells.specs.declared.fault.VisitFault.TheVariants.{StampEnd}
 use Rattle.agent_workers.specs.Turns.{SomeFailed}
 use Rattle.agent_workers.specs.Broken.{HaveBrokenOff}
 use Rattle.agent_workers.proofs.BreakLaws.{err_on}
-use Rattle.agent_workers.proofs.RunLaws.{none_played, all_played, busy_played, ended_states, whole_round, played_on, idle_on, fine_still, so_far_start, so_far_on, shared_none, shared_on, shared_all}
+use Rattle.agent_workers.proofs.RunLaws.{same_all, same_then, none_played, all_played, busy_played, ended_states, whole_round, played_on, idle_on, fine_still, so_far_start, so_far_on, shared_none, shared_on, shared_all}
 use Rattle.agent_workers.proofs.runs.play_out.Goals as goal
 
 pub loop-init : goal.loop-init
 loop-init g c = let none = c.requires.none in record {
   joined = c.requires.joined;
   begun = c.requires.begun;
+  same = same_all (λ b. (goal.Machine-dyn g (b.vtable, b.value)).meaning b.value) c.args.cells.now;
   fine = c.requires.fine;
   so_far = so_far_start (λ b. (goal.Machine-dyn g (b.vtable, b.value)).meaning b.value) c.args.workers c.args.budget c.args.cells.now;
   deliveries = sym none;
@@ -61,6 +62,7 @@ pub loop-preserved : goal.loop-preserved
 loop-preserved g c = let i = c.loop.invariant in let was = i.deliveries in let more = c.in_ok-taken.ensures.counted in let some = c.if-taken-eq0.false in let less = c.if-deliveries-budget.false in let grown = i.progress in record {
   joined = c.play_round.ensures.joined;
   begun = c.play_round.ensures.begun;
+  same = same_then (λ b. (goal.Machine-dyn g (b.vtable, b.value)).meaning b.value) c.args.cells.now c.loop.cells c.play_round.new.cells i.same c.play_round.ensures.same;
   fine = fine_still (λ b. (goal.Machine-dyn g (b.vtable, b.value)).meaning b.value) c.loop.cells c.play_round.new.cells c.in_ok-taken.ensures.fine i.fine;
   so_far = so_far_on (λ b. (goal.Machine-dyn g (b.vtable, b.value)).meaning b.value) c.args.workers c.useful_workers-most.result c.args.budget c.loop.deliveries c.args.cells.now c.loop.cells c.play_round.new.cells c.useful_workers-most.ensures.most i.so_far was (i.within c.loop-test.true) i.awake (omega (arith, more, some)) c.in_ok-taken.ensures.round c.in_ok-taken.ensures.parts;
   deliveries = omega (arith, was, more);
@@ -100,3 +102,18 @@ returns-then-taken-eq0-clause-parts g c = let i = c.loop.invariant in
 
 pub returns-clause-parts : goal.returns-clause-parts
 returns-clause-parts g c = shared_all (λ b. (goal.Machine-dyn g (b.vtable, b.value)).meaning b.value) c.args.workers c.args.budget c.args.cells.now c.loop.cells c.loop.invariant.so_far
+
+pub returns-in_err-taken-clause-same : goal.returns-in_err-taken-clause-same
+returns-in_err-taken-clause-same g c = same_then (λ b. (goal.Machine-dyn g (b.vtable, b.value)).meaning b.value) c.args.cells.now c.loop.cells c.play_round.new.cells c.loop.invariant.same c.play_round.ensures.same
+
+pub returns-then-all_ended-2-clause-same : goal.returns-then-all_ended-2-clause-same
+returns-then-all_ended-2-clause-same g c = same_then (λ b. (goal.Machine-dyn g (b.vtable, b.value)).meaning b.value) c.args.cells.now c.loop.cells c.play_round.new.cells c.loop.invariant.same c.play_round.ensures.same
+
+pub returns-then-deliveries-budget-clause-same : goal.returns-then-deliveries-budget-clause-same
+returns-then-deliveries-budget-clause-same g c = same_then (λ b. (goal.Machine-dyn g (b.vtable, b.value)).meaning b.value) c.args.cells.now c.loop.cells c.play_round.new.cells c.loop.invariant.same c.play_round.ensures.same
+
+pub returns-then-taken-eq0-clause-same : goal.returns-then-taken-eq0-clause-same
+returns-then-taken-eq0-clause-same g c = same_then (λ b. (goal.Machine-dyn g (b.vtable, b.value)).meaning b.value) c.args.cells.now c.loop.cells c.play_round.new.cells c.loop.invariant.same c.play_round.ensures.same
+
+pub returns-then-all_ended-clause-same : goal.returns-then-all_ended-clause-same
+returns-then-all_ended-clause-same g c = same_all (λ b. (goal.Machine-dyn g (b.vtable, b.value)).meaning b.value) c.args.cells.now

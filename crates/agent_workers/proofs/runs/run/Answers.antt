@@ -4,7 +4,7 @@ use Rattle.agent_cells.specs.State.{begun_in, IsCell}
 use Rattle.agent_cells.proofs.CellLaws.{written}
 use Rattle.agent_workers.specs.Shared.{HaveRunShared}
 use Rattle.agent_workers.proofs.ListLaws.{carry}
-use Rattle.agent_workers.specs.Joined.{EachIs, AreCellsJoined}
+use Rattle.agent_workers.specs.Joined.{EachIs, EachBecomes, IsSameCell, AreCellsJoined}
 use Rattle.agent_workers.proofs.runs.run.Goals as goal
 
 pub run_all-requires-clause-joined : goal.run_all-requires-clause-joined
@@ -18,3 +18,9 @@ run_all-requires-clause-fresh g c κs within = subst (EachIs (λ x. begun_in x �
 
 pub returns-clause-parts : goal.returns-clause-parts
 returns-clause-parts g c = carry (λ old new. OnOk c.run_all.result (HaveRunShared (λ b. (goal.Machine-dyn g (b.vtable, b.value)).meaning b.value) c.args.workers c.args.budget old new)) _ _ _ _ c.as_mut_slice.ensures.value (written _ c.args.cells.now.items c.run_all.new.cells c.as_mut_slice.result.now c.args.cells.now.ok.0 c.run_all.auto.cells c.as_mut_slice.ensures.value) c.run_all.ensures.parts
+
+pub returns-clause-same : goal.returns-clause-same
+returns-clause-same g c = carry (EachBecomes (λ a b. IsSameCell a b)) _ _ _ _ c.as_mut_slice.ensures.value (written _ c.args.cells.now.items c.run_all.new.cells c.as_mut_slice.result.now c.args.cells.now.ok.0 c.run_all.ensures.same.size c.as_mut_slice.ensures.value) c.run_all.ensures.same
+
+pub returns-clause-sound : goal.returns-clause-sound
+returns-clause-sound g c = subst (EachIs (λ x. IsCell (λ b. (goal.Machine-dyn g (b.vtable, b.value)).meaning b.value) x)) (sym (written _ c.args.cells.now.items c.run_all.new.cells c.as_mut_slice.result.now c.args.cells.now.ok.0 c.run_all.ensures.same.size c.as_mut_slice.ensures.value)) c.run_all.ensures.sound

@@ -1,7 +1,8 @@
 use Rattle.std.proofs.Common.{subst}
 use Rattle.agent_workers.specs.Turns.{SomeFailed}
 use Rattle.agent_workers.proofs.RoundLaws.{sound_from}
-use Rattle.agent_workers.proofs.RunLaws.{begun_all, joined_all, fine_all, none_yet, whole_run, due_run, still_run, never_ends}
+use Rattle.agent_workers.proofs.JoinLaws.{quiet_same, sound_still}
+use Rattle.agent_workers.proofs.RunLaws.{same_then, begun_all, joined_all, fine_all, none_yet, whole_run, due_run, still_run, never_ends}
 use Rattle.agent_workers.proofs.runs.run_all.Goals as goal
 
 pub play_out-requires-clause-joined : goal.play_out-requires-clause-joined
@@ -29,8 +30,16 @@ unreachable-requires g c = let is = c.in-Err-StampEnd.field-0-is in
 
 pub returns-in-Ok : goal.returns-in-Ok
 returns-in-Ok g c = record {
+  same = same_then (λ b. (goal.Machine-dyn g (b.vtable, b.value)).meaning b.value) c.args.cells.now c.play_out.new.cells c.settle_all.new.cells (same_then (λ b. (goal.Machine-dyn g (b.vtable, b.value)).meaning b.value) c.args.cells.now c.begin_all.new.cells c.play_out.new.cells c.begin_all.ensures.same c.play_out.ensures.same) (quiet_same (λ b. (goal.Machine-dyn g (b.vtable, b.value)).meaning b.value) c.play_out.new.cells c.settle_all.new.cells c.settle_all.ensures.settled.quiet);
+  sound = sound_still (λ b. (goal.Machine-dyn g (b.vtable, b.value)).meaning b.value) c.play_out.new.cells c.settle_all.new.cells (sound_from (λ b. (goal.Machine-dyn g (b.vtable, b.value)).meaning b.value) c.play_out.new.cells c.play_out.ensures.begun) c.settle_all.ensures.settled.quiet;
   run = whole_run (λ b. (goal.Machine-dyn g (b.vtable, b.value)).meaning b.value) c.args.budget c.args.cells.now c.begin_all.new.cells c.play_out.new.cells c.settle_all.new.cells c.in-Ok.end c.requires.joined c.in_ok-begin_all.ensures.started c.in-Ok.ensures.played c.settle_all.ensures.settled;
   rounds = due_run (λ b. (goal.Machine-dyn g (b.vtable, b.value)).meaning b.value) c.args.budget c.args.cells.now c.begin_all.new.cells c.play_out.new.cells c.settle_all.new.cells c.in-Ok.end c.requires.joined c.in_ok-begin_all.ensures.started c.in-Ok.ensures.played c.settle_all.ensures.settled;
   still = still_run (λ b. (goal.Machine-dyn g (b.vtable, b.value)).meaning b.value) c.args.budget c.args.cells.now c.begin_all.new.cells c.play_out.new.cells c.settle_all.new.cells c.in-Ok.end c.requires.joined c.in_ok-begin_all.ensures.started c.in-Ok.ensures.played c.in-Ok.ensures.still c.settle_all.ensures.settled;
   parts = record { started = c.begin_all.new.cells; played = c.play_out.new.cells; starts = c.in_ok-begin_all.ensures.started; rounds = c.in-Ok.ensures.parts; quiet = c.settle_all.ensures.settled.quiet };
 }
+
+pub returns-in-Err-NoMemory-clause-same : goal.returns-in-Err-NoMemory-clause-same
+returns-in-Err-NoMemory-clause-same g c = same_then (λ b. (goal.Machine-dyn g (b.vtable, b.value)).meaning b.value) c.args.cells.now c.begin_all.new.cells c.play_out.new.cells c.begin_all.ensures.same c.play_out.ensures.same
+
+pub returns-in-Err-NoMemory-clause-sound : goal.returns-in-Err-NoMemory-clause-sound
+returns-in-Err-NoMemory-clause-sound g c = sound_from (λ b. (goal.Machine-dyn g (b.vtable, b.value)).meaning b.value) c.play_out.new.cells c.play_out.ensures.begun
