@@ -1,7 +1,7 @@
 -- Where two lists first differ, and what a link's passages add up to.
 use Rattle.std.proofs.Common.{◌≡◌, ℕ, zero, suc, ◌+◌, ◌<◌, List, [], ◌∷◌, ◌++◌, take, length, min, Bool, true, false, not, Option, Some, None, get_or, refl, sym, ap, ap₂, subst, ◌∙◌, arith}
 use Rattle.std.specs.List.{All, slice_get}
-use Rattle.std.specs.Prelude.{◌↔◌, is_some, MatchOption}
+use Rattle.std.specs.Prelude.{◌↔◌, is_some, MatchOption, slice_set}
 use Rattle.std.proofs.Math.Seq.{take-append_seam}
 use Rattle.std.proofs.lemmas.Option.{none-some, same_Some, get_or_from_slice_get, slice_get_within}
 use Rattle.std.proofs.lemmas.Bool.{true≢false}
@@ -17,6 +17,7 @@ use Rattle.link_records.specs.declared.kept.LinkDifference.{LinkDifference}
 use Rattle.link_records.specs.Firsts.{DiffersFirst}
 use Rattle.link_records.specs.Passed.{passed_since}
 use Rattle.link_records.specs.Found.{IsLowest, IsDifferenceOf}
+use Rattle.link_records.specs.Left.{fresh_link, IsRenewed}
 
 abbrev tail_of : {X : Type 0} → List X → List X
 tail_of [] = []
@@ -123,3 +124,25 @@ pub differs_at : (ws : List Wire) (link : ℕ) (w v : Wire) (r : Option LinkDiff
     → MatchOption r (HasHeld v) (λ d. (d.from ≡ v.sender) × (d.to ≡ v.receiver) × IsDifferenceOf v d.at d.sent d.taken) → MatchOption r (HaveHeld ws) (λ d. Differs ws d.from d.to d.at d.sent d.taken)
 differs_at ws link w v None l same held = absurd (l.differs (subst HasHeld (same ∙ get_or_from_slice_get ws link l.wire w l.is) held))
 differs_at ws link w v (Some d) l same found = lowest_differs ws link v d.from d.to d.at d.sent d.taken l (sym (same ∙ get_or_from_slice_get ws link l.wire w l.is)) found.0 found.1 found.2
+
+same_wire : (w : Wire) (from to : ℕ) → w.sender ≡ from → w.receiver ≡ to → w.passages ≡ [] → w ≡ fresh_link from to
+same_wire w from to sender receiver none =
+    ap (λ (ps : List Passage). record { receiver = w.receiver; sender = w.sender; passages = ps }) none ∙ ap₂ (λ (i j : ℕ). fresh_link i j) sender receiver
+
+-- and what is left of the links
+pub left_at : (ws : List Wire) (link : ℕ) (w v u x : Wire) (r : Option LinkDifference) → IsLowest ws (length ws) link → v ≡ get_or ws link w → u ≡ x
+    → (x.sender ≡ (get_or ws link w).sender) × (x.receiver ≡ (get_or ws link w).receiver) → x.passages ≡ []
+    → MatchOption r (HasHeld v) (λ d. (d.from ≡ v.sender) × (d.to ≡ v.receiver) × IsDifferenceOf v d.at d.sent d.taken) → MatchOption r (slice_set ws link u ≡ ws) (λ d. IsRenewed ws d.from d.to (slice_set ws link u))
+left_at ws link w v u x None l same new ends none held = absurd (l.differs (subst HasHeld (same ∙ get_or_from_slice_get ws link l.wire w l.is) held))
+left_at ws link w v u x (Some d) l same new ends none found =
+    let here : v ≡ l.wire = same ∙ get_or_from_slice_get ws link l.wire w l.is in
+    let sender : v.sender ≡ (get_or ws link w).sender = ap (λ (y : Wire). y.sender) same in
+    let receiver : v.receiver ≡ (get_or ws link w).receiver = ap (λ (y : Wire). y.receiver) same in
+    record {
+      link = link;
+      wire = l.wire;
+      is = l.is;
+      ends = (ap (λ (y : Wire). y.sender) (sym here) ∙ sym found.0, ap (λ (y : Wire). y.receiver) (sym here) ∙ sym found.1);
+      differs = l.differs;
+      left = ap (λ (y : Wire). slice_set ws link y) (new ∙ same_wire x d.from d.to (ends.0 ∙ sym sender ∙ sym found.0) (ends.1 ∙ sym receiver ∙ sym found.1) none);
+    }

@@ -12,7 +12,8 @@ pub record IsLowest (ws : List Wire) (count link : ℕ) : Type 0 where
   pub differs : ¬ HasHeld wire
   pub lowest : (k : ℕ) (v : Wire) → k < count → slice_get ws k ≡ Some v → IsLowerLink v wire → HasHeld v
 
--- it is this one, or none of the first `count` links differs
+-- the lowest link that differs, of the first `count`, is at this position; with `None` none of them
+-- differs
 abbrev pub IsLowestOf : List Wire → ℕ → Option ℕ → Type 0
 IsLowestOf ws count (Some link) = IsLowest ws count link
 IsLowestOf ws count None = (k : ℕ) (v : Wire) → k < count → slice_get ws k ≡ Some v → HasHeld v

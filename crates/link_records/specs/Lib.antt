@@ -3,3 +3,4 @@ pub mod Differences
 pub mod Firsts
 pub mod Passed
 pub mod Found
+pub mod Left

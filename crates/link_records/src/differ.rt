@@ -4,6 +4,7 @@ ghost use Rattle.std.specs.Prelude.{◌≡◌, ◌↔◌, ◌+◌, ◌<◌, true
 ghost use Rattle.worker_laws.specs.Wires.{HaveHeld};
 ghost use Rattle.link_records.specs.Differences.{IsLowerLink, Differs};
 ghost use Rattle.link_records.specs.Found.{IsLowest, IsLowestOf};
+ghost use Rattle.link_records.specs.Left.{IsRenewed};
 
 use crate::kept::{KeptLink, LinkDifference};
 use std::mem;
@@ -11,9 +12,10 @@ use std::mem;
 /// The first difference between what was drained of these links and what arrived in the same
 /// exchange: that of the lowest link that differs, by its sender and then its receiver. `None`
 /// exactly when each exchange took on each link what it drained there. The link with the difference
-/// is then like a new one. It takes no memory.
+/// is then like a new one, and every other link stays as it was. It takes no memory.
 pub fn take_difference(kept: &mut [KeptLink]) -> Option<LinkDifference>
-    ensures { MatchOption result (HaveHeld kept.old) (λ d. Differs kept.old d.from d.to d.at d.sent d.taken) }
+    ensures found { MatchOption result (HaveHeld kept.old) (λ d. Differs kept.old d.from d.to d.at d.sent d.taken) }
+    ensures left { MatchOption result (kept.new ≡ kept.old) (λ d. IsRenewed kept.old d.from d.to kept.new) }
 {
     let place = lowest_differing(kept)?;
     let link = &mut kept[place];

@@ -18,8 +18,8 @@ use std::marker::Model;
 
 /// A link from an agent to one in another node, with its first difference: the first place at which
 /// what arrived is not what was drained in the same exchange. Contracts see a `Wire` of
-/// `worker_laws`, with all that the link has passed. Its memory does not grow with the number of
-/// passages.
+/// `worker_laws`, with all that the link has passed. At run time only the first difference is kept,
+/// so memory does not grow with the number of passages; no clause speaks of memory.
 #[derive(Drop)]
 pub struct KeptLink {
     from: VarId,
