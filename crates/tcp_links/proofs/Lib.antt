@@ -5,6 +5,7 @@ mod FeedLaws
 mod KeptLaws
 mod WeaveLaws
 mod ExchangeLaws
+mod LeftLaws
 mod OverLaws
 mod SharedLaws
 mod RunLaws

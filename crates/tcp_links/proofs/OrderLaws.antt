@@ -7,7 +7,8 @@ use Rattle.std.proofs.lemmas.List.Elements.{All-append, All-cons, All-take, All-
 use Rattle.worker_laws.proofs.EachLaws.{each_back}
 use Rattle.worker_laws.specs.Wires.{Wire, AreApart, HasPassed, ArePassedOn}
 use Rattle.link_records.specs.Differences.{IsLowerLink}
-use Rattle.tcp_links.specs.Plans.{AreOrdered, BelongsAt, fresh_link}
+use Rattle.link_records.specs.Left.{fresh_link}
+use Rattle.tcp_links.specs.Plans.{AreOrdered, BelongsAt}
 
 -- what stands in a list with one element more at a place
 insert_back : {A : Type 0} (xs : List A) (i : ℕ) (y : A) (k : ℕ) (b : A) → i ≤ length xs → slice_get (insert xs i y) k ≡ Some b

@@ -8,12 +8,13 @@ use Rattle.worker_laws.specs.Wires.{Passage, Wire, AreApart}
 use Rattle.fifo_links.specs.declared.ends.LinkTail.{LinkTail}
 use Rattle.fifo_links.specs.declared.ends.LinkHead.{LinkHead}
 use Rattle.fifo_links.specs.Link.{AreEnds, sent_on, taken_from}
+use Rattle.link_records.specs.Left.{fresh_link}
 use Rattle.wire_pump.specs.Wire.{Told}
 use Rattle.wire_pump.specs.Dialer.{TellsNothing}
 use Rattle.wire_pump.specs.Pump.{HaveAll}
 use Rattle.tcp_links.specs.declared.plan.InnerEnds.{InnerEnds}
 use Rattle.tcp_links.specs.declared.plan.NodePlan.{NodePlan}
-use Rattle.tcp_links.specs.Plans.{pair_count, IsBetween, AreOrdered, fresh_link, BelongsAt, IsPlan, IsNewLink}
+use Rattle.tcp_links.specs.Plans.{pair_count, IsBetween, AreOrdered, BelongsAt, IsPlan, IsNewLink}
 use Rattle.tcp_links.proofs.OrderLaws.{all_insert, ordered_insert, apart_ordered}
 
 -- an item that was inserted is taken out again

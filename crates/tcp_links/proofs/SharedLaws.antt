@@ -15,7 +15,7 @@ use Rattle.agent_workers.specs.Settled.{StaysQuiet}
 use Rattle.agent_workers.specs.Run.{HasStarted, AreBusy, AreDue}
 use Rattle.agent_workers.specs.Shared.{IsSharedRound}
 use Rattle.agent_workers.proofs.JoinLaws.{each_stays_then}
-use Rattle.tcp_links.specs.Shared.{IfEnded, IsSharedOver, AreSharedOver, ArePlayedShared, HaveRunShared}
+use Rattle.tcp_links.specs.Shared.{IfEnded, IsSharedOver, AreSharedOver, ArePlayedSharedOver, HaveRunSharedOver}
 
 pub if_ended : (P : Type 0) (end : Option RunEnd) (answer : RunEnd) → end ≡ Some answer → P → IfEnded end P
 if_ended P end answer is p = subst (λ (e : Option RunEnd). IfEnded e P) (sym is) p
@@ -70,7 +70,7 @@ module _ {X : Type 0} {F : X → Type 0} (M : DynBox X Global F → View) where
   pub shared_start : (workers nodes : ℕ) (cells : List (Cell X F)) → SharedSoFar workers nodes cells cells
   shared_start workers nodes cells = record { rounds = []; shared = refl; busy = tt }
 
-  pub shared_all : (workers nodes : ℕ) (started now : List (Cell X F)) → SharedSoFar workers nodes started now → ArePlayedShared M workers nodes started now
+  pub shared_all : (workers nodes : ℕ) (started now : List (Cell X F)) → SharedSoFar workers nodes started now → ArePlayedSharedOver M workers nodes started now
   shared_all workers nodes started now s = record { rounds = s.rounds; shared = s.shared; due = due_busy (states_of M started) (map (states_of M) s.rounds) s.busy }
 
   module _ (workers nodes : ℕ) (started now next : List (Cell X F)) (s : SharedSoFar workers nodes started now) (awake : all_ended (states_of M now) ≡ false) (round : IsSharedOver M workers nodes now next) where
@@ -81,19 +81,19 @@ module _ {X : Type 0} {F : X → Type 0} (M : DynBox X Global F → View) where
       busy = busy_push workers nodes started s.rounds now next s.shared s.busy awake more;
     }
 
-    pub shared_last : ArePlayedShared M workers nodes started next
+    pub shared_last : ArePlayedSharedOver M workers nodes started next
     shared_last = record {
       rounds = s.rounds ++ next ∷ [];
       shared = push workers nodes started s.rounds now next s.shared round;
       due = due_push workers nodes started s.rounds now next s.shared s.busy awake;
     }
 
-  pub run_shared : (workers nodes : ℕ) (made started played ready last : List (Cell X F)) (end : Option RunEnd) (answer : RunEnd) → end ≡ Some answer → EachBecomes (HasStarted M) made started → IfEnded end (ArePlayedShared M workers nodes started played)
-      → EachBecomes (StaysQuiet M) played ready → EachBecomes (StaysQuiet M) ready last → HaveRunShared M workers nodes made last
+  pub run_shared : (workers nodes : ℕ) (made started played ready last : List (Cell X F)) (end : Option RunEnd) (answer : RunEnd) → end ≡ Some answer → EachBecomes (HasStarted M) made started → IfEnded end (ArePlayedSharedOver M workers nodes started played)
+      → EachBecomes (StaysQuiet M) played ready → EachBecomes (StaysQuiet M) ready last → HaveRunSharedOver M workers nodes made last
   run_shared workers nodes made started played ready last end answer is starts rounds quiet settled = record {
     started = started;
     played = played;
     starts = starts;
-    rounds = where_ended (ArePlayedShared M workers nodes started played) end answer is rounds;
+    rounds = where_ended (ArePlayedSharedOver M workers nodes started played) end answer is rounds;
     quiet = each_stays_then M played ready last quiet settled;
   }

@@ -37,7 +37,7 @@ pub record HasOtherByte (nodes : ℕ) (node : ℕ → ℕ) (budget : ℕ) (begun
   pub other : IsByteBetween nodes passings from_node to_node place sent taken
 
 -- after the rounds, one exchange more and a last settling, these are the first two envelopes that
--- differ, on the lowest link that differs; and a difference is one of messages or of bytes
+-- differ, on the lowest link that differs
 pub record HasOtherMessage (node : ℕ → ℕ) (budget : ℕ) (begun : List Wire) (started last : List CellState) (from to at : ℕ) (sent taken : Option (ℕ × Sent)) : Type 0 where
   pub count : ℕ
   pub wires : List Wire
@@ -47,6 +47,7 @@ pub record HasOtherMessage (node : ℕ → ℕ) (budget : ℕ) (begun : List Wir
   pub end : IsNodeEnd node wires passed now last
   pub differs : DifferKept passed from to at sent taken
 
+-- a difference is one between two envelopes or one between two bytes
 abbrev pub IsDifference : ℕ → (ℕ → ℕ) → ℕ → List Wire → List CellState → List CellState → Difference → Type 0
 IsDifference nodes node budget begun started last (Message from to at sent taken) = HasOtherMessage node budget begun started last from to at sent taken
 IsDifference nodes node budget begun started last (Bytes round from_node to_node place sent taken) = HasOtherByte nodes node budget begun started round from_node to_node place sent taken

@@ -1,6 +1,7 @@
 pub mod Faults
 pub mod Plans
 pub mod Kept
+pub mod Left
 pub mod Drains
 pub mod Feeds
 pub mod Woven

@@ -6,6 +6,7 @@ use Rattle.protocol_steps.specs.declared.message.Message.{Message}
 use Rattle.worker_laws.specs.OneNode.{home}
 use Rattle.worker_laws.specs.Wires.{Wire, AreApart}
 use Rattle.link_records.specs.Differences.{IsLowerLink}
+use Rattle.link_records.specs.Left.{fresh_link}
 use Rattle.fifo_links.specs.declared.ends.LinkTail.{LinkTail}
 use Rattle.fifo_links.specs.declared.ends.LinkHead.{LinkHead}
 use Rattle.fifo_links.specs.Link.{AreEnds, sent_on, taken_from}
@@ -28,12 +29,8 @@ pub record IsBetween (agents nodes : ℕ) (w : Wire) : Type 0 where
 abbrev pub AreOrdered : List Wire → Type 0
 AreOrdered ws = (k l : ℕ) (v w : Wire) → slice_get ws k ≡ Some v → slice_get ws l ≡ Some w → k < l → IsLowerLink v w
 
--- a link from one agent to another that has passed nothing
-abbrev pub fresh_link : ℕ → ℕ → Wire
-fresh_link from to = record { receiver = to; sender = from; passages = [] }
-
--- such a link belongs at this position among others: those below come before it, and it comes
--- before the rest
+-- a new link from one agent to another belongs at this position among others: those below come
+-- before it, and it comes before the rest
 pub record BelongsAt (ws : List Wire) (from to place : ℕ) : Type 0 where
   pub inside : place ≤ length ws
   pub below : (k : ℕ) (w : Wire) → slice_get ws k ≡ Some w → k < place → IsLowerLink w (fresh_link from to)

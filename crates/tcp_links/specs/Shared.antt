@@ -17,7 +17,8 @@ IfEnded (Some answer) P = P
 IfEnded None P = Unit {0}
 
 module _ {X : Type 0} {F : X → Type 0} where
-  -- an exchange between the nodes, and a round of at most `workers` parts
+  -- first nothing of the cells has changed but what they know, as in an exchange between the nodes;
+  -- then came a round of at most `workers` parts
   pub record IsSharedOver (meaning : DynBox X Global F → View) (workers nodes : ℕ) (before after : List (Cell X F)) : Type 0 where
     pub ready : List (Cell X F)
     pub quiet : EachBecomes (StaysQuiet meaning) before ready
@@ -29,16 +30,16 @@ module _ {X : Type 0} {F : X → Type 0} where
   AreSharedOver meaning workers nodes before (next ∷ rounds) last = IsSharedOver meaning workers nodes before next × AreSharedOver meaning workers nodes next rounds last
 
   -- cells that had started were played in due rounds in nodes, each of at most `workers` parts
-  pub record ArePlayedShared (meaning : DynBox X Global F → View) (workers nodes : ℕ) (started now : List (Cell X F)) : Type 0 where
+  pub record ArePlayedSharedOver (meaning : DynBox X Global F → View) (workers nodes : ℕ) (started now : List (Cell X F)) : Type 0 where
     pub rounds : List (List (Cell X F))
     pub shared : AreSharedOver meaning workers nodes started rounds now
     pub due : AreDue (states_of meaning started) (map (states_of meaning) rounds)
 
-  -- cells have started, were played in due rounds in nodes, each of at most `workers` parts, and an
-  -- exchange and a settling came last
-  pub record HaveRunShared (meaning : DynBox X Global F → View) (workers nodes : ℕ) (made last : List (Cell X F)) : Type 0 where
+  -- cells have started and were played in due rounds in nodes, each of at most `workers` parts; then
+  -- nothing of them has changed but what they know, as in an exchange and a settling
+  pub record HaveRunSharedOver (meaning : DynBox X Global F → View) (workers nodes : ℕ) (made last : List (Cell X F)) : Type 0 where
     pub started : List (Cell X F)
     pub played : List (Cell X F)
     pub starts : EachBecomes (HasStarted meaning) made started
-    pub rounds : ArePlayedShared meaning workers nodes started played
+    pub rounds : ArePlayedSharedOver meaning workers nodes started played
     pub quiet : EachBecomes (StaysQuiet meaning) played last

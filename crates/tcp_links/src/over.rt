@@ -6,12 +6,13 @@ ghost use Rattle.worker_laws.specs.CellRounds.{total};
 ghost use Rattle.worker_laws.specs.OneNode.{home};
 ghost use Rattle.worker_laws.specs.Wires.{HaveHeld};
 ghost use Rattle.agent_cells.specs.State.{fault_in};
-ghost use Rattle.agent_workers.specs.Joined.{states_of, EachIs, HasBegun, AreCellsJoined};
+ghost use Rattle.agent_workers.specs.Joined.{states_of, EachIs, EachBecomes, HasBegun, IsSameCell, AreCellsJoined};
+ghost use Rattle.tcp_links.specs.Left.{HavePassedMore, KeepsPlan};
 ghost use Rattle.tcp_links.specs.Plans.{IsHonest};
 ghost use Rattle.tcp_links.specs.Faults.{HasNodeCause, IsOtherFault};
 ghost use Rattle.tcp_links.specs.Over.{IsPlanOver, IsRoundOver, IsExchangeFault, ArePlayedTo};
 ghost use Rattle.tcp_links.specs.Ends.{IsFaultOver};
-ghost use Rattle.tcp_links.specs.Shared.{IfEnded, IsSharedOver, ArePlayedShared};
+ghost use Rattle.tcp_links.specs.Shared.{IfEnded, IsSharedOver, ArePlayedSharedOver};
 
 use crate::exchange::exchange;
 use crate::fault::NodeFault;
@@ -62,10 +63,12 @@ where
     ensures size { length cells.new ≡ length cells.old }
     ensures joined { AreCellsJoined (λ b. meaning (b.vtable, b.value)) plan.old.nodes cells.new }
     ensures begun { EachIs (λ c. HasBegun (λ b. meaning (b.vtable, b.value)) c) cells.new }
+    ensures same { EachBecomes (λ a b. IsSameCell a b) cells.old cells.new }
+    ensures left { KeepsPlan HavePassedMore plan.old plan.new }
     ensures over { OnOk result (IsPlanOver (λ b. meaning (b.vtable, b.value)) plan.old plan.new cells.new) }
     ensures played { IfOk result (λ play. ArePlayedTo (λ b. meaning (b.vtable, b.value)) (home plan.old.nodes plan.old.agents) budget plan.old.kept.items
         (states_of (λ b. meaning (b.vtable, b.value)) cells.old) plan.new.kept.items cells.new play.rounds play.end) }
-    ensures parts { IfOk result (λ play. IfEnded play.end (ArePlayedShared (λ b. meaning (b.vtable, b.value)) workers plan.old.nodes cells.old cells.new)) }
+    ensures parts { IfOk result (λ play. IfEnded play.end (ArePlayedSharedOver (λ b. meaning (b.vtable, b.value)) workers plan.old.nodes cells.old cells.new)) }
     ensures cause { HasNodeCause (D.faults dialer.old) (D.faults dialer.new) result }
     ensures dialer { D.is_honest dialer.old → D.is_honest dialer.new }
     ensures differs { IfErr result (IsFaultOver plan.old.nodes (home plan.old.nodes plan.old.agents) budget plan.old.kept.items (states_of (λ b. meaning (b.vtable, b.value)) cells.old)) }
@@ -119,6 +122,8 @@ where
     ensures size { length cells.new ≡ length cells.old }
     ensures joined { AreCellsJoined (λ b. meaning (b.vtable, b.value)) plan.old.nodes cells.new }
     ensures begun { EachIs (λ c. HasBegun (λ b. meaning (b.vtable, b.value)) c) cells.new }
+    ensures same { EachBecomes (λ a b. IsSameCell a b) cells.old cells.new }
+    ensures left { KeepsPlan HavePassedMore plan.old plan.new }
     ensures over { OnOk result (IsPlanOver (λ b. meaning (b.vtable, b.value)) plan.old plan.new cells.new) }
     ensures round { IfOk result (IsRoundOver (λ b. meaning (b.vtable, b.value)) plan.old cells.old plan.new cells.new) }
     ensures parts { IfOk result (λ o. IfSome o (λ taken. IsSharedOver (λ b. meaning (b.vtable, b.value)) workers plan.old.nodes cells.old cells.new)) }

@@ -5,9 +5,10 @@ ghost use Rattle.std.specs.List.{insert};
 ghost use Rattle.dcop_base.specs.Limits.{variable_limit, node_limit};
 ghost use Rattle.worker_laws.specs.OneNode.{home};
 ghost use Rattle.link_records.specs.Differences.{IsLowerLink};
+ghost use Rattle.link_records.specs.Left.{fresh_link};
 ghost use Rattle.fifo_links.specs.Link.{AreEnds, sent_on, taken_from};
 ghost use Rattle.wire_pump.specs.Dialer.{HasDialCause};
-ghost use Rattle.tcp_links.specs.Plans.{pair_count, AreOrdered, IsPlan, IsHonest, HasNoLink, IsNewPlan, IsNewLink, IsSamePlan, fresh_link, BelongsAt};
+ghost use Rattle.tcp_links.specs.Plans.{pair_count, AreOrdered, IsPlan, IsHonest, HasNoLink, IsNewPlan, IsNewLink, IsSamePlan, BelongsAt};
 
 use agent_cells::Sealed;
 use dcop_base::{NoMemory, VarId};

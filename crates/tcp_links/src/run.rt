@@ -1,18 +1,19 @@
 //! A run of cells in nodes.
 
-ghost use Rattle.std.specs.Prelude.{◌≡◌, ◌<◌, ◌≤◌, [], length, false, IfOk, OnOk, IfErr, MatchOption};
+ghost use Rattle.std.specs.Prelude.{◌≡◌, ◌<◌, ◌≤◌, [], length, false, IfOk, OnOk, IfErr, IfSome, MatchOption};
 ghost use Rattle.dcop_base.specs.Limits.{variable_limit, budget_limit, node_limit};
 ghost use Rattle.worker_laws.specs.CellRuns.{MakesARun};
 ghost use Rattle.worker_laws.specs.Wires.{HaveHeld};
 ghost use Rattle.agent_cells.specs.State.{begun_in, IsCell};
-ghost use Rattle.agent_workers.specs.Joined.{states_of, EachIs, AreCellsJoined};
+ghost use Rattle.agent_workers.specs.Joined.{states_of, EachIs, EachBecomes, IsSameCell, AreCellsJoined};
 ghost use Rattle.agent_workers.specs.Run.{views_of, AreDulyPlayed, RestsAtStill};
+ghost use Rattle.tcp_links.specs.Left.{IsTakenOut, IsLeftBy};
 ghost use Rattle.tcp_links.specs.Plans.{pair_count, IsPlan, IsHonest, IsNewPlan, IsSamePlan};
 ghost use Rattle.worker_laws.specs.OneNode.{home};
 ghost use Rattle.tcp_links.specs.Woven.{AreLinksIdle};
 ghost use Rattle.tcp_links.specs.Linked.{AreLinkedOver};
 ghost use Rattle.tcp_links.specs.Ends.{HasHeldOver, DiffersOver};
-ghost use Rattle.tcp_links.specs.Shared.{HaveRunShared};
+ghost use Rattle.tcp_links.specs.Shared.{HaveRunSharedOver};
 ghost use Rattle.tcp_links.specs.Faults.{HasNodeCause, IsOtherFault, IsKeptDifference};
 
 use crate::exchange::exchange;
@@ -50,8 +51,10 @@ use wire_pump::{Dialer, Wire};
 ///   honest dialer.
 /// - [`NodeFault::NoMemory`] if memory runs out.
 ///
-/// After a fault the cells and the plan are as the rounds and exchanges left them, except for the
-/// link whose difference is answered: it is like a new one.
+/// After a fault the cells and the plan are as the rounds and exchanges left them: the clauses
+/// `same` and `sound` say what is left of the cells, and `left` of the plan. Only the link whose
+/// [`Difference::Message`] is answered is like a new one, and the two wires of one pair of nodes may
+/// be gone.
 pub fn run_nodes<R, D, G>(
     rt: &R,
     alloc: Global,
@@ -78,11 +81,14 @@ where
     ensures rounds { OnOk result (AreDulyPlayed budget (views_of (λ b. meaning (b.vtable, b.value)) cells.old.items) (states_of (λ b. meaning (b.vtable, b.value)) cells.new.items)) }
     ensures still { IfOk result (λ end. RestsAtStill budget (views_of (λ b. meaning (b.vtable, b.value)) cells.old.items)
         (states_of (λ b. meaning (b.vtable, b.value)) cells.new.items) end) }
-    ensures parts { OnOk result (HaveRunShared (λ b. meaning (b.vtable, b.value)) workers plan.old.nodes cells.old.items cells.new.items) }
+    ensures parts { OnOk result (HaveRunSharedOver (λ b. meaning (b.vtable, b.value)) workers plan.old.nodes cells.old.items cells.new.items) }
     ensures held { OnOk result (HasHeldOver budget (views_of (λ b. meaning (b.vtable, b.value)) cells.old.items) plan.old (states_of (λ b. meaning (b.vtable, b.value)) cells.new.items)) }
     ensures differs { IfErr result (DiffersOver budget (views_of (λ b. meaning (b.vtable, b.value)) cells.old.items) plan.old (states_of (λ b. meaning (b.vtable, b.value)) cells.new.items)) }
     ensures cause { HasNodeCause (D.faults dialer.old) (D.faults dialer.new) result }
+    ensures same { EachBecomes (λ a b. IsSameCell a b) cells.old.items cells.new.items }
+    ensures sound { EachIs (λ c. IsCell (λ b. meaning (b.vtable, b.value)) c) cells.new.items }
     ensures plan { OnOk result (IsNewPlan plan.old.agents plan.old.nodes plan.new) }
+    ensures left { IfErr result (IsLeftBy plan.old plan.new) }
     ensures dialer { D.is_honest dialer.old → D.is_honest dialer.new }
     ensures honest { IsHonest D.W.told D.W.is_joined plan.old → OnOk result (IsHonest D.W.told D.W.is_joined plan.new) × IfErr result IsOtherFault }
 {
@@ -142,11 +148,14 @@ where
     ensures rounds { OnOk result (AreDulyPlayed budget (views_of (λ b. meaning (b.vtable, b.value)) cells.old) (states_of (λ b. meaning (b.vtable, b.value)) cells.new)) }
     ensures still { IfOk result (λ end. RestsAtStill budget (views_of (λ b. meaning (b.vtable, b.value)) cells.old)
         (states_of (λ b. meaning (b.vtable, b.value)) cells.new) end) }
-    ensures parts { OnOk result (HaveRunShared (λ b. meaning (b.vtable, b.value)) workers plan.old.nodes cells.old cells.new) }
+    ensures parts { OnOk result (HaveRunSharedOver (λ b. meaning (b.vtable, b.value)) workers plan.old.nodes cells.old cells.new) }
     ensures held { OnOk result (HasHeldOver budget (views_of (λ b. meaning (b.vtable, b.value)) cells.old) plan.old (states_of (λ b. meaning (b.vtable, b.value)) cells.new)) }
     ensures differs { IfErr result (DiffersOver budget (views_of (λ b. meaning (b.vtable, b.value)) cells.old) plan.old (states_of (λ b. meaning (b.vtable, b.value)) cells.new)) }
     ensures cause { HasNodeCause (D.faults dialer.old) (D.faults dialer.new) result }
+    ensures same { EachBecomes (λ a b. IsSameCell a b) cells.old cells.new }
+    ensures sound { EachIs (λ c. IsCell (λ b. meaning (b.vtable, b.value)) c) cells.new }
     ensures plan { OnOk result (IsNewPlan plan.old.agents plan.old.nodes plan.new) }
+    ensures left { IfErr result (IsLeftBy plan.old plan.new) }
     ensures dialer { D.is_honest dialer.old → D.is_honest dialer.new }
     ensures honest { IsHonest D.W.told D.W.is_joined plan.old → OnOk result (IsHonest D.W.told D.W.is_joined plan.new) × IfErr result IsOtherFault }
 {
@@ -168,7 +177,8 @@ where
 /// The first difference between what an exchange drained of a link and what arrived on it. Its link
 /// is then like a new one. It takes no memory.
 fn compare(kept: &mut [KeptLink]) -> Option<Difference>
-    ensures { MatchOption result (HaveHeld kept.old) (IsKeptDifference kept.old) }
+    ensures found { MatchOption result (HaveHeld kept.old) (IsKeptDifference kept.old) }
+    ensures left { IfSome result (λ d. IsTakenOut d kept.old kept.new) }
 {
     let found = take_difference(kept)?;
     Some(found.into())

@@ -2,11 +2,12 @@
 
 ghost use Rattle.std.specs.Prelude.{◌≡◌, ◌<◌, ℕ, [], true, false, length, Some, slice_get, OnOk};
 ghost use Rattle.fifo_links.specs.Link.{sent_on, taken_from};
-ghost use Rattle.worker_laws.specs.Cells.{lane};
+ghost use Rattle.worker_laws.specs.Cells.{lane, EachAre};
 ghost use Rattle.agent_cells.specs.State.{state_of};
 ghost use Rattle.agent_workers.specs.Joined.{EachBecomes};
 ghost use Rattle.agent_workers.specs.Settled.{StaysQuiet};
 ghost use Rattle.node_exchange.specs.Passings.{holding, emptied};
+ghost use Rattle.tcp_links.specs.Left.{HasPassedMore, HavePassedMore, AreSameEnds};
 ghost use Rattle.tcp_links.specs.Woven.{AreLinksIdle, AreLinksOf, CanDrain, CanDrainAll, CanFeed, CanFeedAll, HasDrainedLink, HaveDrained, HasFedLink, HaveFed, AreEmptied, KnowsElse, SentIsDrained, FedIsTaken};
 
 use crate::drain::drain_link;
@@ -34,6 +35,7 @@ pub(crate) fn drain_all(
     requires drained { SentIsDrained (λ b. meaning (b.vtable, b.value)) still.now kept.now ends.old cells.old }
     requires idle { (node : ℕ → ℕ) × AreLinksIdle node kept.now passings.old }
     ensures quiet { EachBecomes (λ a b. StaysQuiet (λ b. meaning (b.vtable, b.value)) a b) cells.old cells.new }
+    ensures ends { EachAre AreSameEnds ends.old ends.new }
     ensures drained { OnOk result ((node : ℕ → ℕ) → AreLinksIdle node kept.now passings.old
         → HaveDrained (λ b. meaning (b.vtable, b.value)) node (length kept.now) cells.old kept.now ends.old ends.new passings.new) }
 {
@@ -67,6 +69,7 @@ fn drain_at(
         → taken_from ends.old.drain ≡ lane link.now.receiver (state_of (λ b. meaning (b.vtable, b.value)) c).sent }
     requires idle { passing.old.drained ≡ [] }
     ensures quiet { EachBecomes (λ a b. StaysQuiet (λ b. meaning (b.vtable, b.value)) a b) cells.old cells.new }
+    ensures ends { AreSameEnds ends.old ends.new }
     ensures drained { OnOk result ((c : _) → slice_get cells.old link.now.sender ≡ Some c
         → HasDrainedLink (λ b. meaning (b.vtable, b.value)) c link.now ends.old ends.new passing.new.drained) }
     ensures passing { passing.new ≡ holding passing.old passing.new.drained }
@@ -98,6 +101,8 @@ pub(crate) fn feed_all(
     requires links { AreLinksOf kept.old passings.old }
     requires taken { FedIsTaken (λ b. meaning (b.vtable, b.value)) still.now kept.old ends.old cells.old }
     ensures quiet { EachBecomes (λ a b. StaysQuiet (λ b. meaning (b.vtable, b.value)) a b) cells.old cells.new }
+    ensures ends { EachAre AreSameEnds ends.old ends.new }
+    ensures kept { HavePassedMore kept.old kept.new }
     ensures sizes { (length kept.new ≡ length kept.old) × (length ends.new ≡ length ends.old) × (length passings.new ≡ length passings.old) }
     ensures fed { OnOk result (HaveFed (λ b. meaning (b.vtable, b.value)) (length kept.old) cells.new kept.old kept.new ends.old ends.new passings.old) }
     ensures left { OnOk result (AreEmptied (length kept.old) passings.old passings.new) }
@@ -131,6 +136,8 @@ fn feed_at(
     requires taken { (c : _) → slice_get cells.old link.old.receiver ≡ Some c → slice_get still.now link.old.receiver ≡ Some true
         → ends.old.waits ≡ false → lane link.old.sender (state_of (λ b. meaning (b.vtable, b.value)) c).taken ≡ sent_on ends.old.feed }
     ensures quiet { EachBecomes (λ a b. StaysQuiet (λ b. meaning (b.vtable, b.value)) a b) cells.old cells.new }
+    ensures ends { AreSameEnds ends.old ends.new }
+    ensures kept { HasPassedMore link.old link.new }
     ensures known { KnowsElse (λ b. meaning (b.vtable, b.value)) link.old.receiver link.old.sender cells.old cells.new }
     ensures fed { OnOk result ((c : _) → slice_get cells.new link.old.receiver ≡ Some c
         → HasFedLink (λ b. meaning (b.vtable, b.value)) c link.old link.new ends.old ends.new passing.old) }

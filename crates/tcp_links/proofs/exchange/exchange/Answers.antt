@@ -10,6 +10,8 @@ use Rattle.node_exchange.specs.Faults.{IsByteFault}
 use Rattle.tcp_links.specs.Faults.{IsOtherFault}
 use Rattle.tcp_links.specs.Over.{IsExchangeFault}
 use Rattle.tcp_links.proofs.ExchangeLaws.{twice_written, long_written, no_difference, nothing_came, are_across, can_drain, can_feed, still_taken, fault_on, woven_on, idle_on, caught_up, exchange_on, held_on, has_exchanged, idle_slices, emptied_slices, can_drain_slices, sent_slices, taken_slices, links_slices, links_of, sent_where_still, taken_where_still, drained_slices, can_feed_slices, fed_slices}
+use Rattle.tcp_links.specs.Left.{HavePassedMore, AreSameEnds}
+use Rattle.tcp_links.proofs.LeftLaws.{have_none, all_ends_then, keeps_parts}
 use Rattle.tcp_links.proofs.exchange.exchange.Goals as goal
 
 pub drain_all-requires-clause-can : goal.drain_all-requires-clause-can
@@ -145,3 +147,46 @@ returns-clause-honest g c =
     let none = subst NothingCame (sym here) (nothing_came (λ b. (goal.Machine-dyn g (b.vtable, b.value)).meaning b.value) c.args.plan.now.nodes c.args.plan.now.agents c.args.plan.now.kept.items c.args.plan.now.ends.items c.drain_all.new.ends c.args.cells.now c.drain_all.new.cells c.drain_all.new.passings c.requires.woven c.drain_all.ensures.quiet drained) in
     let came = c.in_default.ensures.honest honest none in
     ((came.0.0, λ held. subst HaveHeld (sym kept) (held_on (λ b. (goal.Machine-dyn g (b.vtable, b.value)).meaning b.value) c.args.plan.now.nodes c.args.plan.now.agents c.args.plan.now.kept.items c.args.plan.now.ends.items c.drain_all.new.ends c.args.cells.now c.drain_all.new.cells c.drain_all.new.passings c.requires.woven c.drain_all.ensures.quiet drained c.pass_all.new.passings c.feed_all.new.kept c.feed_all.new.ends c.feed_all.new.cells same c.feed_all.ensures.quiet fed came.0.1 held)), tt)
+
+pub returns-in_err-drain_all-clause-left : goal.returns-in_err-drain_all-clause-left
+returns-in_err-drain_all-clause-left g c =
+    let same = subst (λ es. EachAre AreSameEnds es c.drain_all.new.ends) c.as_mut_slice.ensures.value c.drain_all.ensures.ends in
+    keeps_parts c.args.plan.now _ c.drain_all.new.ends c.args.plan.now.kept.items refl refl (written _ c.args.plan.now.ends.items c.drain_all.new.ends c.as_mut_slice.result.now c.args.plan.now.ends.ok.0 (sym (each_long AreSameEnds c.as_mut_slice.result.now c.drain_all.new.ends c.drain_all.ensures.ends)) c.as_mut_slice.ensures.value) refl same (have_none c.args.plan.now.kept.items)
+
+pub returns-in-Err-clause-left : goal.returns-in-Err-clause-left
+returns-in-Err-clause-left g c =
+    let same = subst (λ es. EachAre AreSameEnds es c.drain_all.new.ends) c.as_mut_slice.ensures.value c.drain_all.ensures.ends in
+    keeps_parts c.args.plan.now _ c.drain_all.new.ends c.args.plan.now.kept.items refl refl (written _ c.args.plan.now.ends.items c.drain_all.new.ends c.as_mut_slice.result.now c.args.plan.now.ends.ok.0 (sym (each_long AreSameEnds c.as_mut_slice.result.now c.drain_all.new.ends c.drain_all.ensures.ends)) c.as_mut_slice.ensures.value) refl same (have_none c.args.plan.now.kept.items)
+
+pub returns-in_err-feed_all-clause-left : goal.returns-in_err-feed_all-clause-left
+returns-in_err-feed_all-clause-left g c =
+    let same : EachAre AreSameEnds c.args.plan.now.ends.items c.drain_all.new.ends = subst (λ es. EachAre AreSameEnds es c.drain_all.new.ends) c.as_mut_slice.ensures.value c.drain_all.ensures.ends in
+    let size = sym (each_long AreSameEnds c.as_mut_slice.result.now c.drain_all.new.ends c.drain_all.ensures.ends) in
+    let ends = written _ c.args.plan.now.ends.items c.drain_all.new.ends c.as_mut_slice.result.now c.args.plan.now.ends.ok.0 (sym (each_long AreSameEnds c.as_mut_slice.result.now c.drain_all.new.ends c.drain_all.ensures.ends)) c.as_mut_slice.ensures.value in
+    let more : EachAre AreSameEnds c.drain_all.new.ends c.feed_all.new.ends = subst (λ es. EachAre AreSameEnds es c.feed_all.new.ends) (c.as_mut_slice-5.ensures.value ∙ ends) c.feed_all.ensures.ends in
+    let twice = twice_written _ c.args.plan.now.ends.items c.drain_all.new.ends c.as_mut_slice.result.now c.feed_all.new.ends c.as_mut_slice-5.result.now c.args.plan.now.ends.ok.0 size c.as_mut_slice.ensures.value c.feed_all.ensures.sizes.1 c.as_mut_slice-5.ensures.value in
+    let kept = written _ c.args.plan.now.kept.items c.feed_all.new.kept c.as_mut_slice-4.result.now c.args.plan.now.kept.ok.0 c.feed_all.ensures.sizes.0 c.as_mut_slice-4.ensures.value in
+    keeps_parts c.args.plan.now _ c.feed_all.new.ends c.feed_all.new.kept refl refl twice kept (all_ends_then c.args.plan.now.ends.items c.drain_all.new.ends c.feed_all.new.ends same more)
+    (subst (λ ws. HavePassedMore ws c.feed_all.new.kept) c.as_mut_slice-4.ensures.value c.feed_all.ensures.kept)
+
+pub returns-in_err-note_all-clause-left : goal.returns-in_err-note_all-clause-left
+returns-in_err-note_all-clause-left g c =
+    let same : EachAre AreSameEnds c.args.plan.now.ends.items c.drain_all.new.ends = subst (λ es. EachAre AreSameEnds es c.drain_all.new.ends) c.as_mut_slice.ensures.value c.drain_all.ensures.ends in
+    let size = sym (each_long AreSameEnds c.as_mut_slice.result.now c.drain_all.new.ends c.drain_all.ensures.ends) in
+    let ends = written _ c.args.plan.now.ends.items c.drain_all.new.ends c.as_mut_slice.result.now c.args.plan.now.ends.ok.0 (sym (each_long AreSameEnds c.as_mut_slice.result.now c.drain_all.new.ends c.drain_all.ensures.ends)) c.as_mut_slice.ensures.value in
+    let more : EachAre AreSameEnds c.drain_all.new.ends c.feed_all.new.ends = subst (λ es. EachAre AreSameEnds es c.feed_all.new.ends) (c.as_mut_slice-5.ensures.value ∙ ends) c.feed_all.ensures.ends in
+    let twice = twice_written _ c.args.plan.now.ends.items c.drain_all.new.ends c.as_mut_slice.result.now c.feed_all.new.ends c.as_mut_slice-5.result.now c.args.plan.now.ends.ok.0 size c.as_mut_slice.ensures.value c.feed_all.ensures.sizes.1 c.as_mut_slice-5.ensures.value in
+    let kept = written _ c.args.plan.now.kept.items c.feed_all.new.kept c.as_mut_slice-4.result.now c.args.plan.now.kept.ok.0 c.feed_all.ensures.sizes.0 c.as_mut_slice-4.ensures.value in
+    keeps_parts c.args.plan.now _ c.feed_all.new.ends c.feed_all.new.kept refl refl twice kept (all_ends_then c.args.plan.now.ends.items c.drain_all.new.ends c.feed_all.new.ends same more)
+    (subst (λ ws. HavePassedMore ws c.feed_all.new.kept) c.as_mut_slice-4.ensures.value c.feed_all.ensures.kept)
+
+pub returns-clause-left : goal.returns-clause-left
+returns-clause-left g c =
+    let same : EachAre AreSameEnds c.args.plan.now.ends.items c.drain_all.new.ends = subst (λ es. EachAre AreSameEnds es c.drain_all.new.ends) c.as_mut_slice.ensures.value c.drain_all.ensures.ends in
+    let size = sym (each_long AreSameEnds c.as_mut_slice.result.now c.drain_all.new.ends c.drain_all.ensures.ends) in
+    let ends = written _ c.args.plan.now.ends.items c.drain_all.new.ends c.as_mut_slice.result.now c.args.plan.now.ends.ok.0 (sym (each_long AreSameEnds c.as_mut_slice.result.now c.drain_all.new.ends c.drain_all.ensures.ends)) c.as_mut_slice.ensures.value in
+    let more : EachAre AreSameEnds c.drain_all.new.ends c.feed_all.new.ends = subst (λ es. EachAre AreSameEnds es c.feed_all.new.ends) (c.as_mut_slice-5.ensures.value ∙ ends) c.feed_all.ensures.ends in
+    let twice = twice_written _ c.args.plan.now.ends.items c.drain_all.new.ends c.as_mut_slice.result.now c.feed_all.new.ends c.as_mut_slice-5.result.now c.args.plan.now.ends.ok.0 size c.as_mut_slice.ensures.value c.feed_all.ensures.sizes.1 c.as_mut_slice-5.ensures.value in
+    let kept = written _ c.args.plan.now.kept.items c.feed_all.new.kept c.as_mut_slice-4.result.now c.args.plan.now.kept.ok.0 c.feed_all.ensures.sizes.0 c.as_mut_slice-4.ensures.value in
+    keeps_parts c.args.plan.now _ c.feed_all.new.ends c.feed_all.new.kept refl refl twice kept (all_ends_then c.args.plan.now.ends.items c.drain_all.new.ends c.feed_all.new.ends same more)
+    (subst (λ ws. HavePassedMore ws c.feed_all.new.kept) c.as_mut_slice-4.ensures.value c.feed_all.ensures.kept)

@@ -1,19 +1,22 @@
 use Rattle.std.proofs.Common.{ℕ, ◌+◌, ◌∙◌, Option, refl, sym, subst, arith}
 use Rattle.worker_laws.specs.OneNode.{home}
 use Rattle.agent_workers.specs.Joined.{states_of}
-use Rattle.agent_workers.proofs.RunLaws.{ended_states}
+use Rattle.agent_workers.proofs.RunLaws.{ended_states, same_all}
 use Rattle.tcp_links.specs.Faults.{IsOtherFault}
 use Rattle.tcp_links.specs.Over.{IsRoundOver}
 use Rattle.tcp_links.specs.Ends.{IsFaultOver}
 use Rattle.tcp_links.proofs.OverLaws.{err_on, nothing_on, cause_on, joined_over, joined_back, over_self, over_then, none_over, all_over, ended_to, broken_to, fault_over, due_on, busy_on, rest_on, idle_on, broken_on}
-use Rattle.tcp_links.specs.Shared.{ArePlayedShared}
+use Rattle.tcp_links.specs.Shared.{ArePlayedSharedOver}
 use Rattle.tcp_links.proofs.SharedLaws.{if_ended, if_broken, shared_at, shared_start, shared_all, shared_more, shared_last}
+use Rattle.tcp_links.proofs.LeftLaws.{keeps_none, keeps_then, same_then}
 use Rattle.tcp_links.proofs.over.play_over.Goals as goal
 
 pub loop-round-init : goal.loop-round-init
 loop-round-init g c = record {
   shared = shared_start (λ b. (goal.Machine-dyn g (b.vtable, b.value)).meaning b.value) c.args.workers c.args.plan.now.nodes c.args.cells.now;
   size = refl;
+  same = same_all (λ b. (goal.Machine-dyn g (b.vtable, b.value)).meaning b.value) c.args.cells.now;
+  left = keeps_none c.args.plan.now;
   joined = c.requires.joined;
   begun = c.requires.begun;
   fine = c.requires.fine;
@@ -158,6 +161,8 @@ pub loop-round-preserved : goal.loop-round-preserved
 loop-round-preserved g c = let i = c.loop-round.invariant in let was = i.deliveries in let made = (subst (λ o. IsRoundOver (λ b. (goal.Machine-dyn g (b.vtable, b.value)).meaning b.value) c.loop-round.plan c.loop-round.cells c.round_over.new.plan c.round_over.new.cells o) c.in-Some.is c.in_ok-taken.ensures.round) in let more = made.counted in let some = c.if-taken-eq0.false in let less = c.if-deliveries-budget.false in let grown = i.progress in let test = c.loop-round-test.true in record {
   shared = shared_more (λ b. (goal.Machine-dyn g (b.vtable, b.value)).meaning b.value) c.args.workers c.args.plan.now.nodes c.args.cells.now c.loop-round.cells c.round_over.new.cells i.shared i.awake (shared_at (λ b. (goal.Machine-dyn g (b.vtable, b.value)).meaning b.value) c.args.workers c.useful_workers-most.result c.args.plan.now.nodes c.loop-round.plan.nodes c.loop-round.cells c.round_over.new.cells _ c.in-Some.taken c.useful_workers-most.ensures.most c.loop-round.invariant.over.nodes c.in-Some.is c.in_ok-taken.ensures.parts) (omega (arith, more, some));
   size = c.round_over.ensures.size ∙ c.loop-round.invariant.size;
+  same = same_then (λ b. (goal.Machine-dyn g (b.vtable, b.value)).meaning b.value) c.args.cells.now c.loop-round.cells c.round_over.new.cells c.loop-round.invariant.same c.round_over.ensures.same;
+  left = keeps_then c.args.plan.now c.loop-round.plan c.round_over.new.plan c.loop-round.invariant.left c.round_over.ensures.left;
   joined = joined_back (λ b. (goal.Machine-dyn g (b.vtable, b.value)).meaning b.value) c.args.plan.now c.loop-round.plan c.round_over.new.cells c.loop-round.invariant.over.nodes c.round_over.ensures.joined;
   begun = c.round_over.ensures.begun;
   fine = made.fine;
@@ -201,22 +206,64 @@ returns-clause-played g c = let i = c.loop-round.invariant in let was = i.delive
     })
 
 pub returns-then-all_ended-clause-parts : goal.returns-then-all_ended-clause-parts
-returns-then-all_ended-clause-parts g c = if_ended (ArePlayedShared (λ b. (goal.Machine-dyn g (b.vtable, b.value)).meaning b.value) c.args.workers c.args.plan.now.nodes c.args.cells.now c.args.cells.now) _ _ c.ended.ensures.1 (shared_all (λ b. (goal.Machine-dyn g (b.vtable, b.value)).meaning b.value) c.args.workers c.args.plan.now.nodes c.args.cells.now c.args.cells.now (shared_start (λ b. (goal.Machine-dyn g (b.vtable, b.value)).meaning b.value) c.args.workers c.args.plan.now.nodes c.args.cells.now))
+returns-then-all_ended-clause-parts g c = if_ended (ArePlayedSharedOver (λ b. (goal.Machine-dyn g (b.vtable, b.value)).meaning b.value) c.args.workers c.args.plan.now.nodes c.args.cells.now c.args.cells.now) _ _ c.ended.ensures.1 (shared_all (λ b. (goal.Machine-dyn g (b.vtable, b.value)).meaning b.value) c.args.workers c.args.plan.now.nodes c.args.cells.now c.args.cells.now (shared_start (λ b. (goal.Machine-dyn g (b.vtable, b.value)).meaning b.value) c.args.workers c.args.plan.now.nodes c.args.cells.now))
 
 pub returns-in_default-clause-parts : goal.returns-in_default-clause-parts
-returns-in_default-clause-parts g c = if_broken (ArePlayedShared (λ b. (goal.Machine-dyn g (b.vtable, b.value)).meaning b.value) c.args.workers c.args.plan.now.nodes c.args.cells.now c.round_over.new.cells) _ c.broken.ensures.1
+returns-in_default-clause-parts g c = if_broken (ArePlayedSharedOver (λ b. (goal.Machine-dyn g (b.vtable, b.value)).meaning b.value) c.args.workers c.args.plan.now.nodes c.args.cells.now c.round_over.new.cells) _ c.broken.ensures.1
 
 pub returns-then-all_ended-2-clause-parts : goal.returns-then-all_ended-2-clause-parts
 returns-then-all_ended-2-clause-parts g c = let i = c.loop-round.invariant in
-    if_ended (ArePlayedShared (λ b. (goal.Machine-dyn g (b.vtable, b.value)).meaning b.value) c.args.workers c.args.plan.now.nodes c.args.cells.now c.round_over.new.cells) _ _ c.ended-then-all_ended-2.ensures.1 (shared_last (λ b. (goal.Machine-dyn g (b.vtable, b.value)).meaning b.value) c.args.workers c.args.plan.now.nodes c.args.cells.now c.loop-round.cells c.round_over.new.cells i.shared i.awake (shared_at (λ b. (goal.Machine-dyn g (b.vtable, b.value)).meaning b.value) c.args.workers c.useful_workers-most.result c.args.plan.now.nodes c.loop-round.plan.nodes c.loop-round.cells c.round_over.new.cells _ c.in-Some.taken c.useful_workers-most.ensures.most c.loop-round.invariant.over.nodes c.in-Some.is c.in_ok-taken.ensures.parts))
+    if_ended (ArePlayedSharedOver (λ b. (goal.Machine-dyn g (b.vtable, b.value)).meaning b.value) c.args.workers c.args.plan.now.nodes c.args.cells.now c.round_over.new.cells) _ _ c.ended-then-all_ended-2.ensures.1 (shared_last (λ b. (goal.Machine-dyn g (b.vtable, b.value)).meaning b.value) c.args.workers c.args.plan.now.nodes c.args.cells.now c.loop-round.cells c.round_over.new.cells i.shared i.awake (shared_at (λ b. (goal.Machine-dyn g (b.vtable, b.value)).meaning b.value) c.args.workers c.useful_workers-most.result c.args.plan.now.nodes c.loop-round.plan.nodes c.loop-round.cells c.round_over.new.cells _ c.in-Some.taken c.useful_workers-most.ensures.most c.loop-round.invariant.over.nodes c.in-Some.is c.in_ok-taken.ensures.parts))
 
 pub returns-then-deliveries-budget-clause-parts : goal.returns-then-deliveries-budget-clause-parts
 returns-then-deliveries-budget-clause-parts g c = let i = c.loop-round.invariant in
-    if_ended (ArePlayedShared (λ b. (goal.Machine-dyn g (b.vtable, b.value)).meaning b.value) c.args.workers c.args.plan.now.nodes c.args.cells.now c.round_over.new.cells) _ _ c.ended-then-deliveries-budget.ensures.1 (shared_last (λ b. (goal.Machine-dyn g (b.vtable, b.value)).meaning b.value) c.args.workers c.args.plan.now.nodes c.args.cells.now c.loop-round.cells c.round_over.new.cells i.shared i.awake (shared_at (λ b. (goal.Machine-dyn g (b.vtable, b.value)).meaning b.value) c.args.workers c.useful_workers-most.result c.args.plan.now.nodes c.loop-round.plan.nodes c.loop-round.cells c.round_over.new.cells _ c.in-Some.taken c.useful_workers-most.ensures.most c.loop-round.invariant.over.nodes c.in-Some.is c.in_ok-taken.ensures.parts))
+    if_ended (ArePlayedSharedOver (λ b. (goal.Machine-dyn g (b.vtable, b.value)).meaning b.value) c.args.workers c.args.plan.now.nodes c.args.cells.now c.round_over.new.cells) _ _ c.ended-then-deliveries-budget.ensures.1 (shared_last (λ b. (goal.Machine-dyn g (b.vtable, b.value)).meaning b.value) c.args.workers c.args.plan.now.nodes c.args.cells.now c.loop-round.cells c.round_over.new.cells i.shared i.awake (shared_at (λ b. (goal.Machine-dyn g (b.vtable, b.value)).meaning b.value) c.args.workers c.useful_workers-most.result c.args.plan.now.nodes c.loop-round.plan.nodes c.loop-round.cells c.round_over.new.cells _ c.in-Some.taken c.useful_workers-most.ensures.most c.loop-round.invariant.over.nodes c.in-Some.is c.in_ok-taken.ensures.parts))
 
 pub returns-then-taken-eq0-clause-parts : goal.returns-then-taken-eq0-clause-parts
 returns-then-taken-eq0-clause-parts g c = let i = c.loop-round.invariant in
-    if_ended (ArePlayedShared (λ b. (goal.Machine-dyn g (b.vtable, b.value)).meaning b.value) c.args.workers c.args.plan.now.nodes c.args.cells.now c.round_over.new.cells) _ _ c.ended-then-taken-eq0.ensures.1 (shared_last (λ b. (goal.Machine-dyn g (b.vtable, b.value)).meaning b.value) c.args.workers c.args.plan.now.nodes c.args.cells.now c.loop-round.cells c.round_over.new.cells i.shared i.awake (shared_at (λ b. (goal.Machine-dyn g (b.vtable, b.value)).meaning b.value) c.args.workers c.useful_workers-most.result c.args.plan.now.nodes c.loop-round.plan.nodes c.loop-round.cells c.round_over.new.cells _ c.in-Some.taken c.useful_workers-most.ensures.most c.loop-round.invariant.over.nodes c.in-Some.is c.in_ok-taken.ensures.parts))
+    if_ended (ArePlayedSharedOver (λ b. (goal.Machine-dyn g (b.vtable, b.value)).meaning b.value) c.args.workers c.args.plan.now.nodes c.args.cells.now c.round_over.new.cells) _ _ c.ended-then-taken-eq0.ensures.1 (shared_last (λ b. (goal.Machine-dyn g (b.vtable, b.value)).meaning b.value) c.args.workers c.args.plan.now.nodes c.args.cells.now c.loop-round.cells c.round_over.new.cells i.shared i.awake (shared_at (λ b. (goal.Machine-dyn g (b.vtable, b.value)).meaning b.value) c.args.workers c.useful_workers-most.result c.args.plan.now.nodes c.loop-round.plan.nodes c.loop-round.cells c.round_over.new.cells _ c.in-Some.taken c.useful_workers-most.ensures.most c.loop-round.invariant.over.nodes c.in-Some.is c.in_ok-taken.ensures.parts))
 
 pub returns-clause-parts : goal.returns-clause-parts
-returns-clause-parts g c = if_ended (ArePlayedShared (λ b. (goal.Machine-dyn g (b.vtable, b.value)).meaning b.value) c.args.workers c.args.plan.now.nodes c.args.cells.now c.loop-round.cells) _ _ c.ended-2.ensures.1 (shared_all (λ b. (goal.Machine-dyn g (b.vtable, b.value)).meaning b.value) c.args.workers c.args.plan.now.nodes c.args.cells.now c.loop-round.cells c.loop-round.invariant.shared)
+returns-clause-parts g c = if_ended (ArePlayedSharedOver (λ b. (goal.Machine-dyn g (b.vtable, b.value)).meaning b.value) c.args.workers c.args.plan.now.nodes c.args.cells.now c.loop-round.cells) _ _ c.ended-2.ensures.1 (shared_all (λ b. (goal.Machine-dyn g (b.vtable, b.value)).meaning b.value) c.args.workers c.args.plan.now.nodes c.args.cells.now c.loop-round.cells c.loop-round.invariant.shared)
+
+pub returns-then-all_ended-clause-same : goal.returns-then-all_ended-clause-same
+returns-then-all_ended-clause-same g c = same_all (λ b. (goal.Machine-dyn g (b.vtable, b.value)).meaning b.value) c.args.cells.now
+
+pub returns-then-all_ended-clause-left : goal.returns-then-all_ended-clause-left
+returns-then-all_ended-clause-left g c = keeps_none c.args.plan.now
+
+pub returns-in_err-taken-clause-same : goal.returns-in_err-taken-clause-same
+returns-in_err-taken-clause-same g c = same_then (λ b. (goal.Machine-dyn g (b.vtable, b.value)).meaning b.value) c.args.cells.now c.loop-round.cells c.round_over.new.cells c.loop-round.invariant.same c.round_over.ensures.same
+
+pub returns-in_err-taken-clause-left : goal.returns-in_err-taken-clause-left
+returns-in_err-taken-clause-left g c = keeps_then c.args.plan.now c.loop-round.plan c.round_over.new.plan c.loop-round.invariant.left c.round_over.ensures.left
+
+pub returns-in_default-clause-same : goal.returns-in_default-clause-same
+returns-in_default-clause-same g c = same_then (λ b. (goal.Machine-dyn g (b.vtable, b.value)).meaning b.value) c.args.cells.now c.loop-round.cells c.round_over.new.cells c.loop-round.invariant.same c.round_over.ensures.same
+
+pub returns-in_default-clause-left : goal.returns-in_default-clause-left
+returns-in_default-clause-left g c = keeps_then c.args.plan.now c.loop-round.plan c.round_over.new.plan c.loop-round.invariant.left c.round_over.ensures.left
+
+pub returns-then-all_ended-2-clause-same : goal.returns-then-all_ended-2-clause-same
+returns-then-all_ended-2-clause-same g c = same_then (λ b. (goal.Machine-dyn g (b.vtable, b.value)).meaning b.value) c.args.cells.now c.loop-round.cells c.round_over.new.cells c.loop-round.invariant.same c.round_over.ensures.same
+
+pub returns-then-all_ended-2-clause-left : goal.returns-then-all_ended-2-clause-left
+returns-then-all_ended-2-clause-left g c = keeps_then c.args.plan.now c.loop-round.plan c.round_over.new.plan c.loop-round.invariant.left c.round_over.ensures.left
+
+pub returns-then-deliveries-budget-clause-same : goal.returns-then-deliveries-budget-clause-same
+returns-then-deliveries-budget-clause-same g c = same_then (λ b. (goal.Machine-dyn g (b.vtable, b.value)).meaning b.value) c.args.cells.now c.loop-round.cells c.round_over.new.cells c.loop-round.invariant.same c.round_over.ensures.same
+
+pub returns-then-deliveries-budget-clause-left : goal.returns-then-deliveries-budget-clause-left
+returns-then-deliveries-budget-clause-left g c = keeps_then c.args.plan.now c.loop-round.plan c.round_over.new.plan c.loop-round.invariant.left c.round_over.ensures.left
+
+pub returns-then-taken-eq0-clause-same : goal.returns-then-taken-eq0-clause-same
+returns-then-taken-eq0-clause-same g c = same_then (λ b. (goal.Machine-dyn g (b.vtable, b.value)).meaning b.value) c.args.cells.now c.loop-round.cells c.round_over.new.cells c.loop-round.invariant.same c.round_over.ensures.same
+
+pub returns-then-taken-eq0-clause-left : goal.returns-then-taken-eq0-clause-left
+returns-then-taken-eq0-clause-left g c = keeps_then c.args.plan.now c.loop-round.plan c.round_over.new.plan c.loop-round.invariant.left c.round_over.ensures.left
+
+pub returns-clause-same : goal.returns-clause-same
+returns-clause-same g c = c.loop-round.invariant.same
+
+pub returns-clause-left : goal.returns-clause-left
+returns-clause-left g c = c.loop-round.invariant.left

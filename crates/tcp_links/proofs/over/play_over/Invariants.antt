@@ -4,8 +4,9 @@ use Rattle.worker_laws.specs.CellRuns.{all_ended}
 use Rattle.worker_laws.specs.OneNode.{home}
 use Rattle.worker_laws.specs.Wires.{HaveHeld}
 use Rattle.agent_cells.specs.State.{fault_in}
-use Rattle.agent_workers.specs.Joined.{states_of, EachIs, HasBegun, AreCellsJoined}
+use Rattle.agent_workers.specs.Joined.{states_of, EachIs, EachBecomes, HasBegun, IsSameCell, AreCellsJoined}
 use Rattle.agent_workers.specs.Run.{AreBusy}
+use Rattle.tcp_links.specs.Left.{HavePassedMore, KeepsPlan}
 use Rattle.tcp_links.specs.Plans.{IsHonest}
 use Rattle.tcp_links.specs.Over.{IsPlanOver, ArePlayedSo}
 use Rattle.tcp_links.proofs.SharedLaws.{SharedSoFar}
@@ -15,6 +16,8 @@ abbrev pub invariant-loop-round : goal.invariant-loop-round
 invariant-loop-round g l = record {
   shared : SharedSoFar (λ b. (goal.Machine-dyn g (b.vtable, b.value)).meaning b.value) l.workers l.initial.plan.nodes l.initial.cells l.cells;
   size : length l.cells ≡ length l.initial.cells;
+  same : EachBecomes IsSameCell l.initial.cells l.cells;
+  left : KeepsPlan HavePassedMore l.initial.plan l.plan;
   joined : AreCellsJoined (λ b. (goal.Machine-dyn g (b.vtable, b.value)).meaning b.value) l.initial.plan.nodes l.cells;
   begun : EachIs (λ c. HasBegun (λ b. (goal.Machine-dyn g (b.vtable, b.value)).meaning b.value) c) l.cells;
   fine : EachIs (λ c. fault_in c ≡ None) l.cells;

@@ -1,11 +1,13 @@
 use Rattle.std.proofs.Common.{◌∙◌, refl, subst, arith}
 use Rattle.agent_workers.specs.Turns.{SomeFailed}
+use Rattle.agent_workers.proofs.JoinLaws.{quiet_same}
 use Rattle.agent_workers.proofs.RoundLaws.{sound_from, begun_still}
 use Rattle.agent_workers.proofs.RunLaws.{fine_still}
 use Rattle.tcp_links.specs.Faults.{IsOtherFault}
 use Rattle.tcp_links.specs.Over.{IsExchangeFault}
 use Rattle.tcp_links.proofs.OverLaws.{err_on, nothing_on, cause_on, joined_quiet, joined_over, joined_back, fine_quiet, over_played, over_forgot, round_made, broken_made}
 use Rattle.tcp_links.proofs.SharedLaws.{shared_over}
+use Rattle.tcp_links.proofs.LeftLaws.{keeps_same, keeps_then, same_then}
 use Rattle.tcp_links.proofs.over.round_over.Goals as goal
 
 pub exchange-requires-clause-plan : goal.exchange-requires-clause-plan
@@ -85,3 +87,27 @@ returns-in-Err-NoMemory-clause-size g c = c.play_round.ensures.same.size ∙ c.e
 
 pub returns-in-Ok-clause-parts : goal.returns-in-Ok-clause-parts
 returns-in-Ok-clause-parts g c = shared_over (λ b. (goal.Machine-dyn g (b.vtable, b.value)).meaning b.value) c.args.workers c.args.workers c.args.plan.now.nodes c.exchange.new.plan.nodes c.args.cells.now c.exchange.new.cells c.play_round.new.cells (omega arith) c.in_ok-exchange.ensures.exchanged.over.nodes c.exchange.ensures.quiet c.in-Ok.ensures.parts
+
+pub returns-in_err-exchange-clause-same : goal.returns-in_err-exchange-clause-same
+returns-in_err-exchange-clause-same g c = quiet_same (λ b. (goal.Machine-dyn g (b.vtable, b.value)).meaning b.value) c.args.cells.now c.exchange.new.cells c.exchange.ensures.quiet
+
+pub returns-in_err-exchange-clause-left : goal.returns-in_err-exchange-clause-left
+returns-in_err-exchange-clause-left g c = c.exchange.ensures.left
+
+pub returns-in-Ok-clause-same : goal.returns-in-Ok-clause-same
+returns-in-Ok-clause-same g c = same_then (λ b. (goal.Machine-dyn g (b.vtable, b.value)).meaning b.value) c.args.cells.now c.exchange.new.cells c.play_round.new.cells (quiet_same (λ b. (goal.Machine-dyn g (b.vtable, b.value)).meaning b.value) c.args.cells.now c.exchange.new.cells c.exchange.ensures.quiet) c.play_round.ensures.same
+
+pub returns-in-Ok-clause-left : goal.returns-in-Ok-clause-left
+returns-in-Ok-clause-left g c = c.exchange.ensures.left
+
+pub returns-in-Err-StampEnd-clause-same : goal.returns-in-Err-StampEnd-clause-same
+returns-in-Err-StampEnd-clause-same g c = same_then (λ b. (goal.Machine-dyn g (b.vtable, b.value)).meaning b.value) c.args.cells.now c.exchange.new.cells c.play_round.new.cells (quiet_same (λ b. (goal.Machine-dyn g (b.vtable, b.value)).meaning b.value) c.args.cells.now c.exchange.new.cells c.exchange.ensures.quiet) c.play_round.ensures.same
+
+pub returns-in-Err-StampEnd-clause-left : goal.returns-in-Err-StampEnd-clause-left
+returns-in-Err-StampEnd-clause-left g c = keeps_then c.args.plan.now c.exchange.new.plan _ c.exchange.ensures.left (keeps_same c.exchange.new.plan _ refl refl refl refl)
+
+pub returns-in-Err-NoMemory-clause-same : goal.returns-in-Err-NoMemory-clause-same
+returns-in-Err-NoMemory-clause-same g c = same_then (λ b. (goal.Machine-dyn g (b.vtable, b.value)).meaning b.value) c.args.cells.now c.exchange.new.cells c.play_round.new.cells (quiet_same (λ b. (goal.Machine-dyn g (b.vtable, b.value)).meaning b.value) c.args.cells.now c.exchange.new.cells c.exchange.ensures.quiet) c.play_round.ensures.same
+
+pub returns-in-Err-NoMemory-clause-left : goal.returns-in-Err-NoMemory-clause-left
+returns-in-Err-NoMemory-clause-left g c = c.exchange.ensures.left

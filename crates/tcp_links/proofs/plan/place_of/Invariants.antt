@@ -1,7 +1,7 @@
 use Rattle.std.proofs.Common.{◌≡◌, ℕ, ◌≤◌, length, Some, slice_get}
 use Rattle.worker_laws.specs.Wires.{Wire}
 use Rattle.link_records.specs.Differences.{IsLowerLink}
-use Rattle.tcp_links.specs.Plans.{fresh_link}
+use Rattle.link_records.specs.Left.{fresh_link}
 use Rattle.tcp_links.proofs.plan.place_of.Given as goal
 
 abbrev pub invariant-loop-place : goal.invariant-loop-place

@@ -3,16 +3,20 @@ use Rattle.std.specs.Prelude.{IfOk, OnOk, IfErr}
 use Rattle.worker_laws.specs.CellRuns.{MakesARun}
 use Rattle.agent_cells.specs.State.{begun_in, IsCell}
 use Rattle.agent_cells.proofs.CellLaws.{written}
-use Rattle.agent_workers.specs.Joined.{states_of, EachIs, AreCellsJoined}
+use Rattle.agent_workers.specs.Joined.{states_of, EachIs, EachBecomes, IsSameCell, AreCellsJoined}
 use Rattle.agent_workers.specs.Run.{views_of, AreDulyPlayed, RestsAtStill}
 use Rattle.agent_workers.proofs.ListLaws.{carry}
+use Rattle.agent_workers.proofs.RunLaws.{same_all}
 use Rattle.tcp_links.specs.Linked.{AreLinkedOver}
 use Rattle.tcp_links.specs.Ends.{HasHeldOver, DiffersOver}
-use Rattle.tcp_links.specs.Shared.{HaveRunShared}
+use Rattle.tcp_links.specs.Shared.{HaveRunSharedOver}
 use Rattle.tcp_links.proofs.PlanLaws.{same_plan}
 use Rattle.tcp_links.proofs.WeaveLaws.{on_ok}
 use Rattle.tcp_links.proofs.RunLaws.{on_err, new_as, linked_as, held_as, differs_as}
 use Rattle.node_exchange.specs.Honest.{AreHonest}
+use Rattle.tcp_links.specs.Left.{IsLeftBy}
+use Rattle.tcp_links.proofs.OverLaws.{err_on}
+use Rattle.tcp_links.proofs.LeftLaws.{keeps_same, left_then}
 use Rattle.tcp_links.proofs.run.run_nodes.Goals as goal
 
 pub run_over-requires-clause-plan : goal.run_over-requires-clause-plan
@@ -52,4 +56,22 @@ pub returns-clause-honest : goal.returns-clause-honest
 returns-clause-honest g c = λ h. c.run_over.ensures.honest (subst (λ ws. AreHonest g.D.W.Wire.told g.D.W.Wire.is_joined ws) (sym c.prepare.ensures.same.wires) h)
 
 pub returns-clause-parts : goal.returns-clause-parts
-returns-clause-parts g c = carry (λ old new. OnOk c.run_over.result (HaveRunShared (λ b. (goal.Machine-dyn g (b.vtable, b.value)).meaning b.value) c.args.workers c.args.plan.now.nodes old new)) _ _ _ _ c.as_mut_slice.ensures.value (written _ c.args.cells.now.items c.run_over.new.cells c.as_mut_slice.result.now c.args.cells.now.ok.0 c.run_over.ensures.size c.as_mut_slice.ensures.value) (subst (λ n. OnOk c.run_over.result (HaveRunShared (λ b. (goal.Machine-dyn g (b.vtable, b.value)).meaning b.value) c.args.workers n c.as_mut_slice.result.now c.run_over.new.cells)) c.prepare.ensures.same.nodes c.run_over.ensures.parts)
+returns-clause-parts g c = carry (λ old new. OnOk c.run_over.result (HaveRunSharedOver (λ b. (goal.Machine-dyn g (b.vtable, b.value)).meaning b.value) c.args.workers c.args.plan.now.nodes old new)) _ _ _ _ c.as_mut_slice.ensures.value (written _ c.args.cells.now.items c.run_over.new.cells c.as_mut_slice.result.now c.args.cells.now.ok.0 c.run_over.ensures.size c.as_mut_slice.ensures.value) (subst (λ n. OnOk c.run_over.result (HaveRunSharedOver (λ b. (goal.Machine-dyn g (b.vtable, b.value)).meaning b.value) c.args.workers n c.as_mut_slice.result.now c.run_over.new.cells)) c.prepare.ensures.same.nodes c.run_over.ensures.parts)
+
+pub returns-in_err-prepare-clause-same : goal.returns-in_err-prepare-clause-same
+returns-in_err-prepare-clause-same g c = same_all (λ b. (goal.Machine-dyn g (b.vtable, b.value)).meaning b.value) c.args.cells.now.items
+
+pub returns-in_err-prepare-clause-sound : goal.returns-in_err-prepare-clause-sound
+returns-in_err-prepare-clause-sound g c = c.requires.sound
+
+pub returns-in_err-prepare-clause-left : goal.returns-in_err-prepare-clause-left
+returns-in_err-prepare-clause-left g c = err_on c.from_residual.result _ (IsLeftBy c.args.plan.now c.prepare.new.plan) c.from_residual.ensures.1 (keeps_same c.args.plan.now c.prepare.new.plan c.prepare.ensures.same.agents c.prepare.ensures.same.nodes c.prepare.ensures.same.ends c.prepare.ensures.same.kept)
+
+pub returns-clause-same : goal.returns-clause-same
+returns-clause-same g c = carry (λ old new. EachBecomes IsSameCell old new) _ _ _ _ c.as_mut_slice.ensures.value (written _ c.args.cells.now.items c.run_over.new.cells c.as_mut_slice.result.now c.args.cells.now.ok.0 c.run_over.ensures.size c.as_mut_slice.ensures.value) c.run_over.ensures.same
+
+pub returns-clause-sound : goal.returns-clause-sound
+returns-clause-sound g c = subst (EachIs (λ x. IsCell (λ b. (goal.Machine-dyn g (b.vtable, b.value)).meaning b.value) x)) (sym (written _ c.args.cells.now.items c.run_over.new.cells c.as_mut_slice.result.now c.args.cells.now.ok.0 c.run_over.ensures.size c.as_mut_slice.ensures.value)) c.run_over.ensures.sound
+
+pub returns-clause-left : goal.returns-clause-left
+returns-clause-left g c = on_err _ _ c.run_over.result (λ e. left_then c.args.plan.now c.prepare.new.plan c.run_over.new.plan e (keeps_same c.args.plan.now c.prepare.new.plan c.prepare.ensures.same.agents c.prepare.ensures.same.nodes c.prepare.ensures.same.ends c.prepare.ensures.same.kept)) c.run_over.ensures.left

@@ -1,7 +1,9 @@
 use Rattle.std.proofs.Common.{◌∙◌, refl, sym, subst}
+use Rattle.worker_laws.specs.OneNode.{home}
+use Rattle.agent_cells.proofs.CellLaws.{written}
 use Rattle.agent_workers.specs.Joined.{states_of}
 use Rattle.agent_workers.specs.Run.{views_of}
-use Rattle.agent_workers.proofs.JoinLaws.{sound_still}
+use Rattle.agent_workers.proofs.JoinLaws.{quiet_same, sound_still}
 use Rattle.agent_workers.proofs.RoundLaws.{sound_from}
 use Rattle.agent_workers.proofs.RunLaws.{begun_all, fine_all}
 use Rattle.node_exchange.specs.Honest.{AreHonest}
@@ -11,6 +13,8 @@ use Rattle.tcp_links.specs.Faults.{IsOtherFault}
 use Rattle.tcp_links.proofs.OverLaws.{err_on, nothing_on, cause_on, joined_over, joined_quiet}
 use Rattle.tcp_links.proofs.RunLaws.{held_in, differs_in, never_differ, starts_over, joined_start, none_start, over_start, held_start, new_over, differs_played, differs_last, differs_kept, no_break, last_run, last_duly, last_still, last_held}
 use Rattle.tcp_links.proofs.SharedLaws.{run_shared}
+use Rattle.tcp_links.specs.Left.{IsTakenOut, IsLeftBy}
+use Rattle.tcp_links.proofs.LeftLaws.{keeps_none, keeps_then, left_played, left_exchanged, left_differing, taken_long, same_then}
 use Rattle.tcp_links.proofs.run.run_over.Goals as goal
 
 pub play_over-requires-clause-over : goal.play_over-requires-clause-over
@@ -98,13 +102,13 @@ pub returns-in-Some-clause-dialer : goal.returns-in-Some-clause-dialer
 returns-in-Some-clause-dialer g c = λ d. c.exchange.ensures.dialer (c.play_over.ensures.dialer d)
 
 pub returns-in-Some-clause-differs : goal.returns-in-Some-clause-differs
-returns-in-Some-clause-differs g c = differs_kept (λ b. (goal.Machine-dyn g (b.vtable, b.value)).meaning b.value) c.args.budget c.in_ok-play.play.rounds (views_of (λ b. (goal.Machine-dyn g (b.vtable, b.value)).meaning b.value) c.args.cells.now) (states_of (λ b. (goal.Machine-dyn g (b.vtable, b.value)).meaning b.value) c.begin_all.new.cells) c.args.plan.now c.play_over.new.plan c.play_over.new.cells c.in_ok-play.play.end (starts_over (λ b. (goal.Machine-dyn g (b.vtable, b.value)).meaning b.value) c.args.plan.now.nodes c.args.cells.now c.begin_all.new.cells c.requires.joined c.in_ok-begin_all.ensures.started) c.in_ok-play.ensures.over c.in_ok-play.ensures.played c.exchange.new.plan c.exchange.new.cells c.settle_all.new.cells c.in_ok-exchange.ensures.exchanged c.settle_all.ensures.settled _ (differs_in _ _ _ c.as_mut_slice.ensures.value c.in-Some.ensures)
+returns-in-Some-clause-differs g c = differs_kept (λ b. (goal.Machine-dyn g (b.vtable, b.value)).meaning b.value) c.args.budget c.in_ok-play.play.rounds (views_of (λ b. (goal.Machine-dyn g (b.vtable, b.value)).meaning b.value) c.args.cells.now) (states_of (λ b. (goal.Machine-dyn g (b.vtable, b.value)).meaning b.value) c.begin_all.new.cells) c.args.plan.now c.play_over.new.plan c.play_over.new.cells c.in_ok-play.play.end (starts_over (λ b. (goal.Machine-dyn g (b.vtable, b.value)).meaning b.value) c.args.plan.now.nodes c.args.cells.now c.begin_all.new.cells c.requires.joined c.in_ok-begin_all.ensures.started) c.in_ok-play.ensures.over c.in_ok-play.ensures.played c.exchange.new.plan c.exchange.new.cells c.settle_all.new.cells c.in_ok-exchange.ensures.exchanged c.settle_all.ensures.settled _ (differs_in _ _ _ c.as_mut_slice.ensures.value c.in-Some.ensures.found)
 
 pub returns-in-Some-clause-honest : goal.returns-in-Some-clause-honest
-returns-in-Some-clause-honest g c = λ h. absurd (never_differ c.as_mut_slice.result.now _ (held_in _ _ (sym c.as_mut_slice.ensures.value) ((c.in_ok-exchange.ensures.honest (c.in_ok-play.ensures.honest h (held_start (λ b. (goal.Machine-dyn g (b.vtable, b.value)).meaning b.value) c.args.plan.now c.args.cells.now c.requires.plan c.requires.linked)).0.0).0.1 (c.in_ok-play.ensures.honest h (held_start (λ b. (goal.Machine-dyn g (b.vtable, b.value)).meaning b.value) c.args.plan.now c.args.cells.now c.requires.plan c.requires.linked)).0.1)) c.in-Some.ensures)
+returns-in-Some-clause-honest g c = λ h. absurd (never_differ c.as_mut_slice.result.now _ (held_in _ _ (sym c.as_mut_slice.ensures.value) ((c.in_ok-exchange.ensures.honest (c.in_ok-play.ensures.honest h (held_start (λ b. (goal.Machine-dyn g (b.vtable, b.value)).meaning b.value) c.args.plan.now c.args.cells.now c.requires.plan c.requires.linked)).0.0).0.1 (c.in_ok-play.ensures.honest h (held_start (λ b. (goal.Machine-dyn g (b.vtable, b.value)).meaning b.value) c.args.plan.now c.args.cells.now c.requires.plan c.requires.linked)).0.1)) c.in-Some.ensures.found)
 
 pub unreachable-requires : goal.unreachable-requires
-unreachable-requires g c = no_break (λ b. (goal.Machine-dyn g (b.vtable, b.value)).meaning b.value) c.args.budget c.in_ok-play.play.rounds (views_of (λ b. (goal.Machine-dyn g (b.vtable, b.value)).meaning b.value) c.args.cells.now) (states_of (λ b. (goal.Machine-dyn g (b.vtable, b.value)).meaning b.value) c.begin_all.new.cells) c.args.plan.now c.play_over.new.plan c.play_over.new.cells c.in_ok-play.play.end (starts_over (λ b. (goal.Machine-dyn g (b.vtable, b.value)).meaning b.value) c.args.plan.now.nodes c.args.cells.now c.begin_all.new.cells c.requires.joined c.in_ok-begin_all.ensures.started) c.in_ok-play.ensures.over c.in_ok-play.ensures.played c.exchange.new.plan c.exchange.new.cells c.settle_all.new.cells c.in_ok-exchange.ensures.exchanged c.settle_all.ensures.settled (held_in _ _ c.as_mut_slice.ensures.value c.in_default.ensures) c.in-None.is
+unreachable-requires g c = no_break (λ b. (goal.Machine-dyn g (b.vtable, b.value)).meaning b.value) c.args.budget c.in_ok-play.play.rounds (views_of (λ b. (goal.Machine-dyn g (b.vtable, b.value)).meaning b.value) c.args.cells.now) (states_of (λ b. (goal.Machine-dyn g (b.vtable, b.value)).meaning b.value) c.begin_all.new.cells) c.args.plan.now c.play_over.new.plan c.play_over.new.cells c.in_ok-play.play.end (starts_over (λ b. (goal.Machine-dyn g (b.vtable, b.value)).meaning b.value) c.args.plan.now.nodes c.args.cells.now c.begin_all.new.cells c.requires.joined c.in_ok-begin_all.ensures.started) c.in_ok-play.ensures.over c.in_ok-play.ensures.played c.exchange.new.plan c.exchange.new.cells c.settle_all.new.cells c.in_ok-exchange.ensures.exchanged c.settle_all.ensures.settled (held_in _ _ c.as_mut_slice.ensures.value c.in_default.ensures.found) c.in-None.is
 
 pub returns-clause-size : goal.returns-clause-size
 returns-clause-size g c = c.settle_all.ensures.settled.quiet.size ∙ c.exchange.ensures.quiet.size ∙ c.play_over.ensures.size ∙ c.in_ok-begin_all.ensures.started.size
@@ -116,16 +120,16 @@ pub returns-clause-dialer : goal.returns-clause-dialer
 returns-clause-dialer g c = λ d. c.exchange.ensures.dialer (c.play_over.ensures.dialer d)
 
 pub returns-clause-run : goal.returns-clause-run
-returns-clause-run g c = last_run (λ b. (goal.Machine-dyn g (b.vtable, b.value)).meaning b.value) c.args.budget c.in_ok-play.play.rounds (views_of (λ b. (goal.Machine-dyn g (b.vtable, b.value)).meaning b.value) c.args.cells.now) (states_of (λ b. (goal.Machine-dyn g (b.vtable, b.value)).meaning b.value) c.begin_all.new.cells) c.args.plan.now c.play_over.new.plan c.play_over.new.cells c.in_ok-play.play.end (starts_over (λ b. (goal.Machine-dyn g (b.vtable, b.value)).meaning b.value) c.args.plan.now.nodes c.args.cells.now c.begin_all.new.cells c.requires.joined c.in_ok-begin_all.ensures.started) c.in_ok-play.ensures.over c.in_ok-play.ensures.played c.exchange.new.plan c.exchange.new.cells c.settle_all.new.cells c.in_ok-exchange.ensures.exchanged c.settle_all.ensures.settled (held_in _ _ c.as_mut_slice.ensures.value c.in_default.ensures) c.in-Some-end.end c.in-Some-end.is
+returns-clause-run g c = last_run (λ b. (goal.Machine-dyn g (b.vtable, b.value)).meaning b.value) c.args.budget c.in_ok-play.play.rounds (views_of (λ b. (goal.Machine-dyn g (b.vtable, b.value)).meaning b.value) c.args.cells.now) (states_of (λ b. (goal.Machine-dyn g (b.vtable, b.value)).meaning b.value) c.begin_all.new.cells) c.args.plan.now c.play_over.new.plan c.play_over.new.cells c.in_ok-play.play.end (starts_over (λ b. (goal.Machine-dyn g (b.vtable, b.value)).meaning b.value) c.args.plan.now.nodes c.args.cells.now c.begin_all.new.cells c.requires.joined c.in_ok-begin_all.ensures.started) c.in_ok-play.ensures.over c.in_ok-play.ensures.played c.exchange.new.plan c.exchange.new.cells c.settle_all.new.cells c.in_ok-exchange.ensures.exchanged c.settle_all.ensures.settled (held_in _ _ c.as_mut_slice.ensures.value c.in_default.ensures.found) c.in-Some-end.end c.in-Some-end.is
 
 pub returns-clause-rounds : goal.returns-clause-rounds
-returns-clause-rounds g c = last_duly (λ b. (goal.Machine-dyn g (b.vtable, b.value)).meaning b.value) c.args.budget c.in_ok-play.play.rounds (views_of (λ b. (goal.Machine-dyn g (b.vtable, b.value)).meaning b.value) c.args.cells.now) (states_of (λ b. (goal.Machine-dyn g (b.vtable, b.value)).meaning b.value) c.begin_all.new.cells) c.args.plan.now c.play_over.new.plan c.play_over.new.cells c.in_ok-play.play.end (starts_over (λ b. (goal.Machine-dyn g (b.vtable, b.value)).meaning b.value) c.args.plan.now.nodes c.args.cells.now c.begin_all.new.cells c.requires.joined c.in_ok-begin_all.ensures.started) c.in_ok-play.ensures.over c.in_ok-play.ensures.played c.exchange.new.plan c.exchange.new.cells c.settle_all.new.cells c.in_ok-exchange.ensures.exchanged c.settle_all.ensures.settled (held_in _ _ c.as_mut_slice.ensures.value c.in_default.ensures) c.in-Some-end.end c.in-Some-end.is
+returns-clause-rounds g c = last_duly (λ b. (goal.Machine-dyn g (b.vtable, b.value)).meaning b.value) c.args.budget c.in_ok-play.play.rounds (views_of (λ b. (goal.Machine-dyn g (b.vtable, b.value)).meaning b.value) c.args.cells.now) (states_of (λ b. (goal.Machine-dyn g (b.vtable, b.value)).meaning b.value) c.begin_all.new.cells) c.args.plan.now c.play_over.new.plan c.play_over.new.cells c.in_ok-play.play.end (starts_over (λ b. (goal.Machine-dyn g (b.vtable, b.value)).meaning b.value) c.args.plan.now.nodes c.args.cells.now c.begin_all.new.cells c.requires.joined c.in_ok-begin_all.ensures.started) c.in_ok-play.ensures.over c.in_ok-play.ensures.played c.exchange.new.plan c.exchange.new.cells c.settle_all.new.cells c.in_ok-exchange.ensures.exchanged c.settle_all.ensures.settled (held_in _ _ c.as_mut_slice.ensures.value c.in_default.ensures.found) c.in-Some-end.end c.in-Some-end.is
 
 pub returns-clause-still : goal.returns-clause-still
-returns-clause-still g c = last_still (λ b. (goal.Machine-dyn g (b.vtable, b.value)).meaning b.value) c.args.budget c.in_ok-play.play.rounds (views_of (λ b. (goal.Machine-dyn g (b.vtable, b.value)).meaning b.value) c.args.cells.now) (states_of (λ b. (goal.Machine-dyn g (b.vtable, b.value)).meaning b.value) c.begin_all.new.cells) c.args.plan.now c.play_over.new.plan c.play_over.new.cells c.in_ok-play.play.end (starts_over (λ b. (goal.Machine-dyn g (b.vtable, b.value)).meaning b.value) c.args.plan.now.nodes c.args.cells.now c.begin_all.new.cells c.requires.joined c.in_ok-begin_all.ensures.started) c.in_ok-play.ensures.over c.in_ok-play.ensures.played c.exchange.new.plan c.exchange.new.cells c.settle_all.new.cells c.in_ok-exchange.ensures.exchanged c.settle_all.ensures.settled (held_in _ _ c.as_mut_slice.ensures.value c.in_default.ensures) c.in-Some-end.end c.in-Some-end.is
+returns-clause-still g c = last_still (λ b. (goal.Machine-dyn g (b.vtable, b.value)).meaning b.value) c.args.budget c.in_ok-play.play.rounds (views_of (λ b. (goal.Machine-dyn g (b.vtable, b.value)).meaning b.value) c.args.cells.now) (states_of (λ b. (goal.Machine-dyn g (b.vtable, b.value)).meaning b.value) c.begin_all.new.cells) c.args.plan.now c.play_over.new.plan c.play_over.new.cells c.in_ok-play.play.end (starts_over (λ b. (goal.Machine-dyn g (b.vtable, b.value)).meaning b.value) c.args.plan.now.nodes c.args.cells.now c.begin_all.new.cells c.requires.joined c.in_ok-begin_all.ensures.started) c.in_ok-play.ensures.over c.in_ok-play.ensures.played c.exchange.new.plan c.exchange.new.cells c.settle_all.new.cells c.in_ok-exchange.ensures.exchanged c.settle_all.ensures.settled (held_in _ _ c.as_mut_slice.ensures.value c.in_default.ensures.found) c.in-Some-end.end c.in-Some-end.is
 
 pub returns-clause-held : goal.returns-clause-held
-returns-clause-held g c = last_held (λ b. (goal.Machine-dyn g (b.vtable, b.value)).meaning b.value) c.args.budget c.in_ok-play.play.rounds (views_of (λ b. (goal.Machine-dyn g (b.vtable, b.value)).meaning b.value) c.args.cells.now) (states_of (λ b. (goal.Machine-dyn g (b.vtable, b.value)).meaning b.value) c.begin_all.new.cells) c.args.plan.now c.play_over.new.plan c.play_over.new.cells c.in_ok-play.play.end (starts_over (λ b. (goal.Machine-dyn g (b.vtable, b.value)).meaning b.value) c.args.plan.now.nodes c.args.cells.now c.begin_all.new.cells c.requires.joined c.in_ok-begin_all.ensures.started) c.in_ok-play.ensures.over c.in_ok-play.ensures.played c.exchange.new.plan c.exchange.new.cells c.settle_all.new.cells c.in_ok-exchange.ensures.exchanged c.settle_all.ensures.settled (held_in _ _ c.as_mut_slice.ensures.value c.in_default.ensures) c.in-Some-end.end c.in-Some-end.is
+returns-clause-held g c = last_held (λ b. (goal.Machine-dyn g (b.vtable, b.value)).meaning b.value) c.args.budget c.in_ok-play.play.rounds (views_of (λ b. (goal.Machine-dyn g (b.vtable, b.value)).meaning b.value) c.args.cells.now) (states_of (λ b. (goal.Machine-dyn g (b.vtable, b.value)).meaning b.value) c.begin_all.new.cells) c.args.plan.now c.play_over.new.plan c.play_over.new.cells c.in_ok-play.play.end (starts_over (λ b. (goal.Machine-dyn g (b.vtable, b.value)).meaning b.value) c.args.plan.now.nodes c.args.cells.now c.begin_all.new.cells c.requires.joined c.in_ok-begin_all.ensures.started) c.in_ok-play.ensures.over c.in_ok-play.ensures.played c.exchange.new.plan c.exchange.new.cells c.settle_all.new.cells c.in_ok-exchange.ensures.exchanged c.settle_all.ensures.settled (held_in _ _ c.as_mut_slice.ensures.value c.in_default.ensures.found) c.in-Some-end.end c.in-Some-end.is
 
 pub returns-clause-plan : goal.returns-clause-plan
 returns-clause-plan g c = new_over (λ b. (goal.Machine-dyn g (b.vtable, b.value)).meaning b.value) c.args.plan.now c.play_over.new.plan c.exchange.new.plan c.clear_links.new.plan c.play_over.new.cells c.exchange.new.cells c.in_ok-play.ensures.over c.in_ok-exchange.ensures.exchanged.over c.clear_links.ensures.new
@@ -135,3 +139,48 @@ returns-clause-honest g c = λ h. (subst (λ ws. AreHonest g.D.W.Wire.told g.D.W
 
 pub returns-clause-parts : goal.returns-clause-parts
 returns-clause-parts g c = run_shared (λ b. (goal.Machine-dyn g (b.vtable, b.value)).meaning b.value) c.args.workers c.args.plan.now.nodes c.args.cells.now c.begin_all.new.cells c.play_over.new.cells c.exchange.new.cells c.settle_all.new.cells c.in_ok-play.play.end c.in-Some-end.end c.in-Some-end.is c.in_ok-begin_all.ensures.started c.in_ok-play.ensures.parts c.exchange.ensures.quiet c.settle_all.ensures.settled.quiet
+
+pub returns-in_err-begin_all-clause-same : goal.returns-in_err-begin_all-clause-same
+returns-in_err-begin_all-clause-same g c = c.begin_all.ensures.same
+
+pub returns-in_err-begin_all-clause-sound : goal.returns-in_err-begin_all-clause-sound
+returns-in_err-begin_all-clause-sound g c = c.begin_all.ensures.sound
+
+pub returns-in_err-play-clause-same : goal.returns-in_err-play-clause-same
+returns-in_err-play-clause-same g c = same_then (λ b. (goal.Machine-dyn g (b.vtable, b.value)).meaning b.value) c.args.cells.now c.begin_all.new.cells c.play_over.new.cells c.begin_all.ensures.same c.play_over.ensures.same
+
+pub returns-in_err-play-clause-sound : goal.returns-in_err-play-clause-sound
+returns-in_err-play-clause-sound g c = sound_from (λ b. (goal.Machine-dyn g (b.vtable, b.value)).meaning b.value) c.play_over.new.cells c.play_over.ensures.begun
+
+pub returns-in_err-exchange-clause-same : goal.returns-in_err-exchange-clause-same
+returns-in_err-exchange-clause-same g c = same_then (λ b. (goal.Machine-dyn g (b.vtable, b.value)).meaning b.value) c.args.cells.now c.play_over.new.cells c.exchange.new.cells (same_then (λ b. (goal.Machine-dyn g (b.vtable, b.value)).meaning b.value) c.args.cells.now c.begin_all.new.cells c.play_over.new.cells c.begin_all.ensures.same c.play_over.ensures.same) (quiet_same (λ b. (goal.Machine-dyn g (b.vtable, b.value)).meaning b.value) c.play_over.new.cells c.exchange.new.cells c.exchange.ensures.quiet)
+
+pub returns-in_err-exchange-clause-sound : goal.returns-in_err-exchange-clause-sound
+returns-in_err-exchange-clause-sound g c = sound_still (λ b. (goal.Machine-dyn g (b.vtable, b.value)).meaning b.value) c.play_over.new.cells c.exchange.new.cells (sound_from (λ b. (goal.Machine-dyn g (b.vtable, b.value)).meaning b.value) c.play_over.new.cells c.play_over.ensures.begun) c.exchange.ensures.quiet
+
+pub returns-in-Some-clause-same : goal.returns-in-Some-clause-same
+returns-in-Some-clause-same g c = same_then (λ b. (goal.Machine-dyn g (b.vtable, b.value)).meaning b.value) c.args.cells.now c.exchange.new.cells c.settle_all.new.cells (same_then (λ b. (goal.Machine-dyn g (b.vtable, b.value)).meaning b.value) c.args.cells.now c.play_over.new.cells c.exchange.new.cells (same_then (λ b. (goal.Machine-dyn g (b.vtable, b.value)).meaning b.value) c.args.cells.now c.begin_all.new.cells c.play_over.new.cells c.begin_all.ensures.same c.play_over.ensures.same) (quiet_same (λ b. (goal.Machine-dyn g (b.vtable, b.value)).meaning b.value) c.play_over.new.cells c.exchange.new.cells c.exchange.ensures.quiet)) (quiet_same (λ b. (goal.Machine-dyn g (b.vtable, b.value)).meaning b.value) c.exchange.new.cells c.settle_all.new.cells c.settle_all.ensures.settled.quiet)
+
+pub returns-in-Some-clause-sound : goal.returns-in-Some-clause-sound
+returns-in-Some-clause-sound g c = sound_still (λ b. (goal.Machine-dyn g (b.vtable, b.value)).meaning b.value) c.exchange.new.cells c.settle_all.new.cells (sound_still (λ b. (goal.Machine-dyn g (b.vtable, b.value)).meaning b.value) c.play_over.new.cells c.exchange.new.cells (sound_from (λ b. (goal.Machine-dyn g (b.vtable, b.value)).meaning b.value) c.play_over.new.cells c.play_over.ensures.begun) c.exchange.ensures.quiet) c.settle_all.ensures.settled.quiet
+
+pub returns-clause-same : goal.returns-clause-same
+returns-clause-same g c = same_then (λ b. (goal.Machine-dyn g (b.vtable, b.value)).meaning b.value) c.args.cells.now c.exchange.new.cells c.settle_all.new.cells (same_then (λ b. (goal.Machine-dyn g (b.vtable, b.value)).meaning b.value) c.args.cells.now c.play_over.new.cells c.exchange.new.cells (same_then (λ b. (goal.Machine-dyn g (b.vtable, b.value)).meaning b.value) c.args.cells.now c.begin_all.new.cells c.play_over.new.cells c.begin_all.ensures.same c.play_over.ensures.same) (quiet_same (λ b. (goal.Machine-dyn g (b.vtable, b.value)).meaning b.value) c.play_over.new.cells c.exchange.new.cells c.exchange.ensures.quiet)) (quiet_same (λ b. (goal.Machine-dyn g (b.vtable, b.value)).meaning b.value) c.exchange.new.cells c.settle_all.new.cells c.settle_all.ensures.settled.quiet)
+
+pub returns-clause-sound : goal.returns-clause-sound
+returns-clause-sound g c = sound_still (λ b. (goal.Machine-dyn g (b.vtable, b.value)).meaning b.value) c.exchange.new.cells c.settle_all.new.cells (sound_still (λ b. (goal.Machine-dyn g (b.vtable, b.value)).meaning b.value) c.play_over.new.cells c.exchange.new.cells (sound_from (λ b. (goal.Machine-dyn g (b.vtable, b.value)).meaning b.value) c.play_over.new.cells c.play_over.ensures.begun) c.exchange.ensures.quiet) c.settle_all.ensures.settled.quiet
+
+pub returns-in_err-begin_all-clause-left : goal.returns-in_err-begin_all-clause-left
+returns-in_err-begin_all-clause-left g c = err_on c.from_residual.result _ (IsLeftBy c.args.plan.now c.args.plan.now) c.from_residual.ensures.1 (keeps_none c.args.plan.now)
+
+pub returns-in_err-play-clause-left : goal.returns-in_err-play-clause-left
+returns-in_err-play-clause-left g c = err_on c.from_residual-in_err-play.result _ (IsLeftBy c.args.plan.now c.play_over.new.plan) c.from_residual-in_err-play.ensures.1 (left_played c.args.plan.now.nodes (home c.args.plan.now.nodes c.args.plan.now.agents) c.args.budget c.args.plan.now.kept.items (states_of (λ b. (goal.Machine-dyn g (b.vtable, b.value)).meaning b.value) c.begin_all.new.cells) c.args.plan.now c.play_over.new.plan _ c.in_err-play.ensures.differs c.play_over.ensures.left)
+
+pub returns-in_err-exchange-clause-left : goal.returns-in_err-exchange-clause-left
+returns-in_err-exchange-clause-left g c = err_on c.from_residual-in_err-exchange.result _ (IsLeftBy c.args.plan.now c.exchange.new.plan) c.from_residual-in_err-exchange.ensures.1 (left_exchanged (λ b. (goal.Machine-dyn g (b.vtable, b.value)).meaning b.value) c.in_ok-play.play.rounds c.play_over.new.plan c.args.plan.now c.exchange.new.plan c.play_over.new.cells _ c.in_err-exchange.ensures.differs (keeps_then c.args.plan.now c.play_over.new.plan c.exchange.new.plan c.play_over.ensures.left c.exchange.ensures.left))
+
+pub returns-in-Some-clause-left : goal.returns-in-Some-clause-left
+returns-in-Some-clause-left g c =
+    let out = subst (λ ws. IsTakenOut c.in-Some.difference ws c.compare.new.kept) c.as_mut_slice.ensures.value c.in-Some.ensures.left in
+    left_differing c.in-Some.difference c.args.plan.now c.exchange.new.plan _ c.compare.new.kept (keeps_then c.args.plan.now c.play_over.new.plan c.exchange.new.plan c.play_over.ensures.left c.exchange.ensures.left) refl refl refl
+    (written _ c.exchange.new.plan.kept.items c.compare.new.kept c.as_mut_slice.result.now c.exchange.new.plan.kept.ok.0 (taken_long c.in-Some.difference c.as_mut_slice.result.now c.compare.new.kept c.in-Some.ensures.left) c.as_mut_slice.ensures.value) out

@@ -1,9 +1,19 @@
 use Rattle.std.proofs.Common.{◌≡◌, ℕ, ◌∙◌, get_or, length, sym, subst, arith}
 use Rattle.std.proofs.lemmas.Option.{slice_get-get_or}
-use Rattle.agent_workers.proofs.JoinLaws.{each_stays_then}
+use Rattle.agent_workers.proofs.JoinLaws.{each_stays, each_stays_then}
 use Rattle.tcp_links.specs.Woven.{HaveFed, AreEmptied}
-use Rattle.tcp_links.proofs.WeaveLaws.{feed_inside, feed_next, feed_turn, taken_next, link_next, emptied_turn}
+use Rattle.tcp_links.proofs.WeaveLaws.{feed_inside, feed_next, feed_turn, taken_next, link_next, emptied_turn, emptied_none, fed_none}
+use Rattle.tcp_links.proofs.LeftLaws.{all_ends_none, all_ends_set, have_none, have_set}
 use Rattle.tcp_links.proofs.weave.feed_all.Goals as goal
+
+pub loop-place-init : goal.loop-place-init
+loop-place-init g c = record {
+  quiet = each_stays (λ b. (goal.Machine-dyn g (b.vtable, b.value)).meaning b.value) c.args.cells.now;
+  fed = fed_none (λ b. (goal.Machine-dyn g (b.vtable, b.value)).meaning b.value) c.args.cells.now c.args.kept.now c.args.ends.now c.args.passings.now;
+  same = all_ends_none c.args.ends.now;
+  kept = have_none c.args.kept.now;
+  left = emptied_none c.args.passings.now;
+}
 
 pub feed_at-requires-clause-inside : goal.feed_at-requires-clause-inside
 feed_at-requires-clause-inside g c =
@@ -71,6 +81,8 @@ loop-place-preserved g c =
       quiet = each_stays_then (λ b. (goal.Machine-dyn g (b.vtable, b.value)).meaning b.value) c.args.cells.now c.loop-place.cells c.feed_at.new.cells i.quiet c.feed_at.ensures.quiet;
       fed = feed_turn (λ b. (goal.Machine-dyn g (b.vtable, b.value)).meaning b.value) c.loop-place.place c.loop-place.cells c.feed_at.new.cells c.args.kept.now c.loop-place.kept c.args.ends.now c.loop-place.ends c.args.passings.now
           (get_or c.loop-place.kept c.loop-place.place c.index-kept-place.result) c.feed_at.new.link (get_or c.loop-place.ends c.loop-place.place c.index-ends-place.result) c.feed_at.new.ends (get_or c.loop-place.passings c.loop-place.place c.index-passings-place.result) i.fed c.requires.can.apart c.feed_at.ensures.quiet c.feed_at.ensures.known at_w at_d at_p c.in_ok-feed_at.ensures.fed;
+      same = all_ends_set c.args.ends.now c.loop-place.ends c.loop-place.place c.index-ends-place.result c.feed_at.new.ends i.same (omega (arith, test, size, long)) c.feed_at.ensures.ends;
+      kept = have_set c.args.kept.now c.loop-place.kept c.loop-place.place c.index-kept-place.result c.feed_at.new.link i.kept (omega (arith, test, wires)) c.feed_at.ensures.kept;
       left = emptied_turn c.loop-place.place c.args.passings.now c.loop-place.passings (get_or c.loop-place.passings c.loop-place.place c.index-passings-place.result) c.feed_at.new.passing i.left at_q c.in_ok-feed_at.ensures.left;
     }
 
@@ -87,3 +99,24 @@ returns-clause-left g c =
     let end = c.loop-place.auto.place-end in
     let all : c.loop-place.place ≡ length c.args.kept.now = omega (arith, test, end) in
     subst (λ (n : ℕ). AreEmptied n c.args.passings.now c.loop-place.passings) all c.loop-place.invariant.left
+
+pub returns-in_err-feed_at-clause-ends : goal.returns-in_err-feed_at-clause-ends
+returns-in_err-feed_at-clause-ends g c =
+    let test = c.loop-place-test.true in
+    let i = c.loop-place.invariant in
+    let size = i.fed.size in
+    let long = c.requires.sizes.0 in
+    all_ends_set c.args.ends.now c.loop-place.ends c.loop-place.place c.index-ends-place.result c.feed_at.new.ends i.same (omega (arith, test, size, long)) c.feed_at.ensures.ends
+
+pub returns-in_err-feed_at-clause-kept : goal.returns-in_err-feed_at-clause-kept
+returns-in_err-feed_at-clause-kept g c =
+    let test = c.loop-place-test.true in
+    let i = c.loop-place.invariant in
+    let wires = i.fed.wires in
+    have_set c.args.kept.now c.loop-place.kept c.loop-place.place c.index-kept-place.result c.feed_at.new.link i.kept (omega (arith, test, wires)) c.feed_at.ensures.kept
+
+pub returns-clause-ends : goal.returns-clause-ends
+returns-clause-ends g c = c.loop-place.invariant.same
+
+pub returns-clause-kept : goal.returns-clause-kept
+returns-clause-kept g c = c.loop-place.invariant.kept

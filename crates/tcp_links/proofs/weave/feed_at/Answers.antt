@@ -1,6 +1,8 @@
 use Rattle.std.proofs.Common.{◌∙◌, ap₂, refl}
 use Rattle.link_records.specs.Keeping.{keeps}
 use Rattle.tcp_links.proofs.WeaveLaws.{one_quiet, one_knows_so, feed_can, fed_link, inside_list}
+use Rattle.tcp_links.proofs.DrainLaws.{head_none}
+use Rattle.tcp_links.proofs.LeftLaws.{ends_none, more_none, more_kept}
 use Rattle.tcp_links.proofs.weave.feed_at.Goals as goal
 
 pub feed_link-requires-clause-cell : goal.feed_link-requires-clause-cell
@@ -35,3 +37,21 @@ pub returns-clause-fed : goal.returns-clause-fed
 returns-clause-fed g c =
     λ x at. fed_link (λ b. (goal.Machine-dyn g (b.vtable, b.value)).meaning b.value) c.args.cells.now c.slot-at.result c.from-from.result x c.feed_link.new.cell c.args.link.now c.keep.new.self c.args.ends.now _ c.args.passing.now c.as_slice.result.now (c.slot-at.ensures ∙ c.to-to.ensures ∙ c.requires.link.1) (c.from-from.ensures ∙ c.requires.link.0) c.requires.inside at
     c.feed_link.ensures.end (c.as_slice.ensures.value ∙ c.take_lists-drained.ensures.lists.1) c.in_ok-ends.ensures.fed c.in_ok-ends.ensures.waits c.in_ok-ends.ensures.none refl (c.keep.ensures.kept ∙ ap₂ (keeps c.args.link.now) c.take_lists-drained.ensures.lists.0 c.take_lists-drained.ensures.lists.1)
+
+pub returns-then-rests-clause-ends : goal.returns-then-rests-clause-ends
+returns-then-rests-clause-ends g c = ends_none c.args.ends.now
+
+pub returns-then-rests-clause-kept : goal.returns-then-rests-clause-kept
+returns-then-rests-clause-kept g c = more_none c.args.link.now
+
+pub returns-in_err-ends-clause-ends : goal.returns-in_err-ends-clause-ends
+returns-in_err-ends-clause-ends g c = record { drain = head_none c.args.ends.now.drain; feed = c.feed_link.ensures.end }
+
+pub returns-in_err-ends-clause-kept : goal.returns-in_err-ends-clause-kept
+returns-in_err-ends-clause-kept g c = more_none c.args.link.now
+
+pub returns-clause-ends : goal.returns-clause-ends
+returns-clause-ends g c = record { drain = head_none c.args.ends.now.drain; feed = c.feed_link.ensures.end }
+
+pub returns-clause-kept : goal.returns-clause-kept
+returns-clause-kept g c = more_kept c.args.link.now c.keep.new.self _ _ c.keep.ensures.kept
