@@ -13,9 +13,9 @@ from .programs import TOP, below
 
 PAGE = PAGES / "wrong-bodies.md"
 NAMED = TOP / "docs" / "data" / "wrong-bodies.toml"
-OPENING = """A wrong body is an altered piece of code. The check refuses each of these, since its proof fails; the table names the function and mostly
-the clause. An edit lies in `crates/CRATE/must-fail`, where the gate tries it, or in `wrong/CRATE`, where `wrong/try` does
-([CONTRIBUTING.md](../../CONTRIBUTING.md), "Wrong bodies").
+OPENING = """A wrong body is an altered piece of code. The checker refuses each of these, since its proof fails. The table names the function that is
+refused, and mostly the clause. An edit is the change that makes a wrong body. It is in `crates/CRATE/must-fail`, where the gate tries it, or in
+`wrong/CRATE`, where `wrong/try` does ([Wrong bodies](../../CONTRIBUTING.md#wrong-bodies)).
 """
 
 

@@ -18,7 +18,7 @@ use Rattle.worker_laws.proofs.LaneLaws.{once, lane_none, has_from_contains}
 use Rattle.agent_cells.specs.declared.cell.Cell.{Cell}
 use Rattle.agent_cells.specs.Links.{Tail, Head, lanes_sent, AreSameTails, AreSameHeads}
 use Rattle.agent_cells.specs.Settled.{StandsAt, TailJoins, SettlesTail, TailIsSettled}
-use Rattle.agent_cells.specs.State.{state_of, begun_in, fault_in, tails_in, heads_in, IsCell}
+use Rattle.agent_cells.specs.State.{state_of, begun_in, fault_in, tails_in, heads_in, visits_in, IsCell}
 use Rattle.agent_cells.proofs.SameLaws.{same_tails, same_heads, tails_then, heads_then}
 use Rattle.agent_workers.specs.Settled.{StaysQuiet}
 use Rattle.tcp_links.specs.Drains.{HasDrained}
@@ -153,6 +153,7 @@ module _ {X : Type 0} {F : X → Type 0} (M : DynBox X Global F → View) where
     links = record { tails = same_tails c.tails.items; heads = same_heads c.heads.items };
     begun = refl;
     fault = refl;
+    visits = refl;
   }
 
   pub stays_then : (a b c : Cell X F) → StaysQuiet M a b → StaysQuiet M b c → StaysQuiet M a c
@@ -172,17 +173,19 @@ module _ {X : Type 0} {F : X → Type 0} (M : DynBox X Global F → View) where
     };
     begun = t.begun ∙ s.begun;
     fault = t.fault ∙ s.fault;
+    visits = t.visits ∙ s.visits;
   }
 
   -- settling a tail of a cell leaves it quiet
-  pub tail_quiet : (a b : Cell X F) (to : ℕ) → IsCell M b → IsQuiet (state_of M a) (state_of M b) → SettlesTail (tails_in a) to (tails_in b) → heads_in b ≡ heads_in a → begun_in b ≡ begun_in a → fault_in b ≡ fault_in a
+  pub tail_quiet : (a b : Cell X F) (to : ℕ) → IsCell M b → IsQuiet (state_of M a) (state_of M b) → SettlesTail (tails_in a) to (tails_in b) → heads_in b ≡ heads_in a → begun_in b ≡ begun_in a → fault_in b ≡ fault_in a → visits_in b ≡ visits_in a
       → StaysQuiet M a b
-  tail_quiet a b to cell quiet tails heads begun fault = record {
+  tail_quiet a b to cell quiet tails heads begun fault visits = record {
     cell = λ _. cell;
     quiet = quiet;
     links = record { tails = tails.same; heads = subst (λ (hs : List Head). AreSameHeads (heads_in a) hs) (sym heads) (same_heads (heads_in a)) };
     begun = begun;
     fault = fault;
+    visits = visits;
   }
 
   -- the link from a cell that has stayed quiet

@@ -19,7 +19,7 @@ use Rattle.worker_laws.proofs.LaneLaws.{has_from_contains, once, lane_none}
 use Rattle.agent_cells.specs.declared.cell.Cell.{Cell}
 use Rattle.agent_cells.specs.Links.{Tail, Head, lanes_sent, lanes_taken, known_of, AreSameTails, AreSameHeads}
 use Rattle.agent_cells.specs.Settled.{StandsAt, HeadJoins, SettlesHead, HeadIsSettled, EndsAreSettled}
-use Rattle.agent_cells.specs.State.{state_of, begun_in, fault_in, tails_in, heads_in, IsCell}
+use Rattle.agent_cells.specs.State.{state_of, begun_in, fault_in, tails_in, heads_in, visits_in, IsCell}
 use Rattle.agent_cells.proofs.SameLaws.{same_tails}
 use Rattle.agent_cells.proofs.PlainLaws.{settled_plain}
 use Rattle.agent_workers.specs.Settled.{StaysQuiet}
@@ -123,14 +123,15 @@ all_taken_of to hs from count t taken up peer settled zero_is =
 
 module _ {X : Type 0} {F : X → Type 0} (M : DynBox X Global F → View) where
   -- settling a head of a cell leaves it quiet
-  pub head_quiet : (a b : Cell X F) (from : ℕ) → IsCell M b → IsQuiet (state_of M a) (state_of M b) → SettlesHead (heads_in a) from (heads_in b) → tails_in b ≡ tails_in a → begun_in b ≡ begun_in a → fault_in b ≡ fault_in a
+  pub head_quiet : (a b : Cell X F) (from : ℕ) → IsCell M b → IsQuiet (state_of M a) (state_of M b) → SettlesHead (heads_in a) from (heads_in b) → tails_in b ≡ tails_in a → begun_in b ≡ begun_in a → fault_in b ≡ fault_in a → visits_in b ≡ visits_in a
       → StaysQuiet M a b
-  head_quiet a b from cell quiet heads tails begun fault = record {
+  head_quiet a b from cell quiet heads tails begun fault visits = record {
     cell = λ _. cell;
     quiet = quiet;
     links = record { tails = subst (λ (ts : List Tail). AreSameTails (tails_in a) ts) (sym tails) (same_tails (tails_in a)); heads = heads.same };
     begun = begun;
     fault = fault;
+    visits = visits;
   }
 
   pub cell_waits : (a b : Cell X F) (from count : ℕ) (t : LinkTail (ℕ × Message)) → IsCell M b → IsQuiet (state_of M a) (state_of M b) → Contains (peers (state_of M a).taken) from → HeadIsSettled (heads_in b) from t count

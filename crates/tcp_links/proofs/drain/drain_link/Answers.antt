@@ -10,7 +10,7 @@ pub loop-alloc-smaller : goal.loop-alloc-smaller
 loop-alloc-smaller g c =
     let e = c.settle_tail.ensures in
     let i = c.loop-alloc.invariant in
-    let one = tail_quiet (λ b. (goal.Machine-dyn g (b.vtable, b.value)).meaning b.value) c.loop-alloc.cell c.settle_tail.new.self c.args.to e.cell e.quiet e.tails e.heads e.begun e.fault in
+    let one = tail_quiet (λ b. (goal.Machine-dyn g (b.vtable, b.value)).meaning b.value) c.loop-alloc.cell c.settle_tail.new.self c.args.to e.cell e.quiet e.tails e.heads e.begun e.fault e.visits in
     let whole = stays_then (λ b. (goal.Machine-dyn g (b.vtable, b.value)).meaning b.value) c.args.cell.now c.loop-alloc.cell c.settle_tail.new.self i.quiet one in
     let far = cell_so_far (λ b. (goal.Machine-dyn g (b.vtable, b.value)).meaning b.value) c.args.cell.now c.settle_tail.new.self c.args.to c.settle_tail.result c.settle_tail.new.head whole e.cell c.requires.peer e.settled in
     let n : ℕ = length (taken_from c.take_found.new.inner) in
@@ -23,7 +23,7 @@ pub loop-alloc-preserved : goal.loop-alloc-preserved
 loop-alloc-preserved g c =
     let e = c.settle_tail.ensures in
     let i = c.loop-alloc.invariant in
-    let one = tail_quiet (λ b. (goal.Machine-dyn g (b.vtable, b.value)).meaning b.value) c.loop-alloc.cell c.settle_tail.new.self c.args.to e.cell e.quiet e.tails e.heads e.begun e.fault in
+    let one = tail_quiet (λ b. (goal.Machine-dyn g (b.vtable, b.value)).meaning b.value) c.loop-alloc.cell c.settle_tail.new.self c.args.to e.cell e.quiet e.tails e.heads e.begun e.fault e.visits in
     record {
       cell = e.cell;
       quiet = stays_then (λ b. (goal.Machine-dyn g (b.vtable, b.value)).meaning b.value) c.args.cell.now c.loop-alloc.cell c.settle_tail.new.self i.quiet one;
@@ -38,7 +38,7 @@ returns-clause-all g c =
     let e = c.settle_tail.ensures in
     let i = c.loop-alloc.invariant in
     let none = c.loop-alloc-test.false in
-    let one = tail_quiet (λ b. (goal.Machine-dyn g (b.vtable, b.value)).meaning b.value) c.loop-alloc.cell c.settle_tail.new.self c.args.to e.cell e.quiet e.tails e.heads e.begun e.fault in
+    let one = tail_quiet (λ b. (goal.Machine-dyn g (b.vtable, b.value)).meaning b.value) c.loop-alloc.cell c.settle_tail.new.self c.args.to e.cell e.quiet e.tails e.heads e.begun e.fault e.visits in
     let whole = stays_then (λ b. (goal.Machine-dyn g (b.vtable, b.value)).meaning b.value) c.args.cell.now c.loop-alloc.cell c.settle_tail.new.self i.quiet one in
     let far = cell_so_far (λ b. (goal.Machine-dyn g (b.vtable, b.value)).meaning b.value) c.args.cell.now c.settle_tail.new.self c.args.to c.settle_tail.result c.settle_tail.new.head whole e.cell c.requires.peer e.settled in
     let zero : c.settle_tail.result ≡ 0 = omega (arith, none) in
