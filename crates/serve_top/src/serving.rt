@@ -1,7 +1,8 @@
 //! The server's top call.
 
-ghost use Rattle.std.specs.Prelude.{◌≡◌, ◌≢◌, ◌<◌, ◌⊎◌, map, string_bytes, IfOk, IsOk, IsErr};
+ghost use Rattle.std.specs.Prelude.{◌≡◌, ◌≢◌, ◌⊎◌, map, string_bytes, IfOk, OnErr, IsOk, IsErr};
 ghost use Rattle.dcop_edge.specs.Faults.{Rose};
+ghost use Rattle.answer_io.specs.Showing.{StaysUnless};
 ghost use Rattle.serve_top.specs.Words.{AreWordsInRange, words_read};
 ghost use Rattle.serve_top.specs.Told.{HasSummaryText};
 ghost use Rattle.serve_top.specs.Serving.{listening, sinking, IsServeAnswer, AnswersServe, ShowsSummary, HasAnswered};
@@ -46,9 +47,10 @@ pub fn serve_all<R: Threads + Wait + Sync, L: Listener, K: Sink, M: FreshMaker, 
     ensures refused { result ≡ ServeStatus.BadWords → IsErr (words_read (map string_bytes words.now)) }
     ensures link_fault { result ≡ ServeStatus.LinkFault → Rose (L.faults listener.old) (L.faults listener.new) }
     ensures write_fault { result ≡ ServeStatus.WriteFault → Rose (K.faults sink.old) (K.faults sink.new) }
-    ensures listener_failed { L.faults listener.old < L.faults listener.new →
-        (result ≡ ServeStatus.LinkFault) ⊎ (result ≡ ServeStatus.WriteFault) ⊎ (result ≡ ServeStatus.NoMemory) }
-    ensures sink_failed { K.faults sink.old < K.faults sink.new → result ≡ ServeStatus.WriteFault }
+    ensures listener_failed { StaysUnless (L.faults listener.old) (L.faults listener.new)
+        ((result ≡ ServeStatus.LinkFault) ⊎ (result ≡ ServeStatus.WriteFault) ⊎ (result ≡ ServeStatus.NoMemory)) }
+    ensures sink_failed { StaysUnless (K.faults sink.old) (K.faults sink.new)
+        (result ≡ ServeStatus.WriteFault) }
     ensures complete { IsOk (words_read (map string_bytes words.now)) → ¬ Rose (L.faults listener.old) (L.faults listener.new) → ¬ Rose (K.faults sink.old) (K.faults sink.new) →
         (result ≡ ServeStatus.Solved) ⊎ (result ≡ ServeStatus.NoMemory) }
     ensures none_lent { L.lent listener.new ≡ L.lent listener.old }
@@ -71,6 +73,8 @@ fn answer_all<R: Threads + Wait + Sync, L: Listener, K: Sink, M: FreshMaker, G: 
         (sinking (K.held sink.old) (K.finished sink.old) (K.faults sink.old))
         (sinking (K.held sink.new) (K.finished sink.new) (K.faults sink.new)) result }
     ensures unwritten { result ≡ ServeStatus.NoMemory → sink.new ≡ sink.old }
+    ensures listener_failed { StaysUnless (L.faults listener.old) (L.faults listener.new)
+        ((result ≡ ServeStatus.LinkFault) ⊎ (result ≡ ServeStatus.WriteFault) ⊎ (result ≡ ServeStatus.NoMemory)) }
     ensures none_lent { L.lent listener.new ≡ L.lent listener.old }
 {
     match answer_of::<R, L, M, G>(rt, alloc, words, listener, gate) {
@@ -91,6 +95,7 @@ fn answer_of<R: Threads + Wait + Sync, L: Listener, M: FreshMaker, G: Gate>(
         (listening (L.faults listener.old) (L.waiting listener.old) (L.closed listener.old))
         (listening (L.faults listener.new) (L.waiting listener.new) (L.closed listener.new)) answer) }
     ensures told { IfOk result HasSummaryText }
+    ensures quiet { OnErr result (L.faults listener.new ≡ L.faults listener.old) }
     ensures none_lent { L.lent listener.new ≡ L.lent listener.old }
 {
     match read_words(words) {
@@ -115,6 +120,7 @@ fn served<R: Threads + Wait + Sync, L: Listener, M: FreshMaker, G: Gate>(
         (listening (L.faults listener.old) (L.waiting listener.old) (L.closed listener.old))
         (listening (L.faults listener.new) (L.waiting listener.new) (L.closed listener.new)) answer) }
     ensures told { IfOk result HasSummaryText }
+    ensures quiet { OnErr result (L.faults listener.new ≡ L.faults listener.old) }
     ensures none_lent { L.lent listener.new ≡ L.lent listener.old }
 {
     if listener.open(asked.port as u16).is_err() {

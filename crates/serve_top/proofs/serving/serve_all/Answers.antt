@@ -1,6 +1,6 @@
 use Rattle.std.proofs.Common.{ap, map, string_bytes}
 use Rattle.serve_top.specs.Serving.{listening, sinking}
-use Rattle.serve_top.proofs.ServeLaws.{write_so, refused_so, link_so, listener_failed, sink_failed, complete}
+use Rattle.serve_top.proofs.ServeLaws.{write_so, refused_so, link_so, sink_failed, complete}
 use Rattle.serve_top.proofs.serving.serve_all.Goals as goal
 
 pub returns-clause-refused : goal.returns-clause-refused
@@ -33,16 +33,6 @@ returns-clause-write_fault g c =
     let h = c.answer_all.ensures.answered in
     λ e. let some = h (λ n. let f = n in cc) in write_so some.0 sink sink' c.answer_all.result some.2 e
 
-pub returns-clause-listener_failed : goal.returns-clause-listener_failed
-returns-clause-listener_failed g c =
-    let words = map string_bytes c.args.words.now in
-    let l = listening (g.L.Listener.faults c.args.listener.now) (g.L.Listener.waiting c.args.listener.now) (g.L.Listener.closed c.args.listener.now) in
-    let l' = listening (g.L.Listener.faults c.answer_all.new.listener) (g.L.Listener.waiting c.answer_all.new.listener) (g.L.Listener.closed c.answer_all.new.listener) in
-    let sink = sinking (g.K.Sink.held c.args.sink.now) (g.K.Sink.finished c.args.sink.now) (g.K.Sink.faults c.args.sink.now) in
-    let sink' = sinking (g.K.Sink.held c.answer_all.new.sink) (g.K.Sink.finished c.answer_all.new.sink) (g.K.Sink.faults c.answer_all.new.sink) in
-    let h = c.answer_all.ensures.answered in
-    λ lt. listener_failed g.L.S.Source.left g.L.S.Source.faults g.L.K.Sink.held g.L.K.Sink.faults g.M.Maker.is_reply words l l' sink sink' c.answer_all.result h lt
-
 pub returns-clause-sink_failed : goal.returns-clause-sink_failed
 returns-clause-sink_failed g c =
     let words = map string_bytes c.args.words.now in
@@ -51,7 +41,7 @@ returns-clause-sink_failed g c =
     let sink = sinking (g.K.Sink.held c.args.sink.now) (g.K.Sink.finished c.args.sink.now) (g.K.Sink.faults c.args.sink.now) in
     let sink' = sinking (g.K.Sink.held c.answer_all.new.sink) (g.K.Sink.finished c.answer_all.new.sink) (g.K.Sink.faults c.answer_all.new.sink) in
     let h = c.answer_all.ensures.answered in
-    λ lt. sink_failed g.L.S.Source.left g.L.S.Source.faults g.L.K.Sink.held g.L.K.Sink.faults g.M.Maker.is_reply words l l' sink sink' c.answer_all.result h (λ n. ap (λ s. g.K.Sink.faults s) (c.answer_all.ensures.unwritten n)) lt
+    sink_failed g.L.S.Source.left g.L.S.Source.faults g.L.K.Sink.held g.L.K.Sink.faults g.M.Maker.is_reply words l l' sink sink' c.answer_all.result h (λ n. ap (λ s. g.K.Sink.faults s) (c.answer_all.ensures.unwritten n))
 
 pub returns-clause-complete : goal.returns-clause-complete
 returns-clause-complete g c =
