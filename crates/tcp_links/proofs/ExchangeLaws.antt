@@ -35,7 +35,7 @@ use Rattle.agent_workers.proofs.JoinLaws.{stood, quiet_same, joined_still, each_
 use Rattle.node_exchange.specs.Passings.{Passing, SamePassing, AreAcross, NothingCame, AllCame, emptied as emptied_of}
 use Rattle.node_exchange.specs.declared.fault.PassFault.{PassFault}
 use Rattle.node_exchange.specs.declared.fault.PassFault.TheVariants.{Failed, Bytes, NoMemory}
-use Rattle.node_exchange.specs.Faults.{IsByteBetween, IsByteFault, IsOtherFault as passes_no_difference}
+use Rattle.node_exchange.specs.Faults.{IsByteBetween, IsByteFault, IsNoDifference as passes_no_difference}
 use Rattle.tcp_links.specs.declared.plan.InnerEnds.{InnerEnds}
 use Rattle.tcp_links.specs.declared.plan.NodePlan.{NodePlan}
 use Rattle.tcp_links.specs.Plans.{AreOrdered, IsBetween, pair_count, IsPlan}

@@ -160,7 +160,7 @@ module _ {W : Type 0} where
 
 -- as many links are left
 pub taken_long : (d : Difference) (ws vs : List Wire) → IsTakenOut d ws vs → length vs ≡ length ws
-taken_long (Message from to at sent taken) ws vs out = ap length out.left ∙ length-set ws out.link (fresh_link from to)
+taken_long (Message from to at sent taken) ws vs out = ap length out.1.left ∙ length-set ws out.1.link (fresh_link from to)
 taken_long (Bytes round from_node to_node place sent taken) ws vs out = ap length out
 
 module _ {X : Type 0} {F : X → Type 0} (M : DynBox X Global F → View) where

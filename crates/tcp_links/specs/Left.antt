@@ -3,6 +3,7 @@ use Rattle.std.specs.Prelude.{◌≡◌, List, ◌++◌}
 use Rattle.fifo_links.specs.Link.{SameHead, SameTail}
 use Rattle.worker_laws.specs.Cells.{EachAre}
 use Rattle.worker_laws.specs.Wires.{Passage, Wire}
+use Rattle.link_records.specs.Differences.{Differs as DifferKept}
 use Rattle.link_records.specs.Left.{IsRenewed}
 use Rattle.tcp_links.specs.declared.fault.Difference.{Difference}
 use Rattle.tcp_links.specs.declared.fault.Difference.TheVariants.{Message, Bytes}
@@ -22,10 +23,10 @@ pub record HasPassedMore (before after : Wire) : Type 0 where
 abbrev pub HavePassedMore : List Wire → List Wire → Type 0
 HavePassedMore before after = EachAre HasPassedMore before after
 
--- if two envelopes differ, a link that differs, between the agents that are told, has become a new
--- one; else no link has changed
+-- if two envelopes differ, they were the first two that differed on the lowest link that differed,
+-- and this link has become a new one; else no link has changed
 abbrev pub IsTakenOut : Difference → List Wire → List Wire → Type 0
-IsTakenOut (Message from to at sent taken) before after = IsRenewed before from to after
+IsTakenOut (Message from to at sent taken) before after = DifferKept before from to at sent taken × IsRenewed before from to after
 IsTakenOut (Bytes round from_node to_node place sent taken) before after = after ≡ before
 
 -- the links may have passed more, and then this difference was taken out of them
