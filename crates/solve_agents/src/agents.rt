@@ -55,7 +55,8 @@ fn run_agents<R: Threads + Sync, G: Gate>(
 }
 
 /// The same, with the log of the run if it is requested. One worker plays the agents on this thread,
-/// without cells and links, and in the same way with a log and without one.
+/// without cells and links. One loop plays them with a log and without one, but no clause compares
+/// the two runs.
 pub(crate) fn run_logged<R: Threads + Sync, G: Gate>(
     crew: &Crew<R, G>,
     alloc: Global,
