@@ -9,7 +9,7 @@ use Rattle.worker_laws.specs.Wires.{Wire}
 use Rattle.agent_links.specs.Links.{row, pairs_to}
 use Rattle.agent_links.proofs.ListLaws.{from_parts, into_parts}
 use Rattle.tcp_links.specs.declared.plan.NodePlan.{NodePlan}
-use Rattle.tcp_links.specs.Plans.{fresh_link}
+use Rattle.link_records.specs.Left.{fresh_link}
 use Rattle.node_seats.specs.Links.{node_in, KeepsPairs}
 use Rattle.node_seats.proofs.LeadLaws.{stands_more, last_at}
 

@@ -17,7 +17,8 @@ use Rattle.agent_cells.specs.Settled.{StandsAt}
 use Rattle.agent_links.specs.Links.{pushed}
 use Rattle.tcp_links.specs.declared.plan.InnerEnds.{InnerEnds}
 use Rattle.tcp_links.specs.declared.plan.NodePlan.{NodePlan}
-use Rattle.tcp_links.specs.Plans.{fresh_link, BelongsAt, IsNewLink}
+use Rattle.link_records.specs.Left.{fresh_link}
+use Rattle.tcp_links.specs.Plans.{BelongsAt, IsNewLink}
 use Rattle.node_seats.specs.Links.{LeadsBetween, AllLead, AreLinksBefore}
 
 -- what stands in a list with one element more at its end

@@ -26,7 +26,8 @@ use Rattle.agent_links.specs.Links.{rows_in, pushed, AreNewLinks, row, pairs_to}
 use Rattle.agent_links.proofs.LinkLaws.{one_added, links_none, own_list, written_back, links_all}
 use Rattle.agent_links.proofs.PairLaws.{pairs_more, list_at}
 use Rattle.tcp_links.specs.declared.plan.NodePlan.{NodePlan}
-use Rattle.tcp_links.specs.Plans.{fresh_link, HasNoLink, IsPlan, IsNewLink, IsSamePlan}
+use Rattle.link_records.specs.Left.{fresh_link}
+use Rattle.tcp_links.specs.Plans.{HasNoLink, IsPlan, IsNewLink, IsSamePlan}
 use Rattle.node_seats.specs.Links.{node_in, AreLinksBefore, AreLinksOver, IsNodeLink, AreNewOver, AddLinksOver, AddAllLinksOver}
 use Rattle.node_seats.specs.Seats.{IsSameFrame}
 use Rattle.node_seats.proofs.LeadLaws.{not_before, then_before, all_then, all_at, kept_end, all_still, all_more, come_before}

@@ -13,7 +13,8 @@ use Rattle.agent_cells.specs.Settled.{StandsAt, TailJoins, HeadJoins}
 use Rattle.agent_links.specs.Links.{AreLinksIn, AreNewLinks, pairs_to, row}
 use Rattle.tcp_links.specs.declared.plan.InnerEnds.{InnerEnds}
 use Rattle.tcp_links.specs.declared.plan.NodePlan.{NodePlan}
-use Rattle.tcp_links.specs.Plans.{fresh_link, IsNewLink, IsSamePlan}
+use Rattle.link_records.specs.Left.{fresh_link}
+use Rattle.tcp_links.specs.Plans.{IsNewLink, IsSamePlan}
 
 -- a link of the plan leads from a tail of its sender to a head of its receiver, and nothing has
 -- passed on it

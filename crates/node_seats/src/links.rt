@@ -7,7 +7,8 @@ ghost use Rattle.dcop_base.specs.Limits.{variable_limit};
 ghost use Rattle.agent_links.specs.Beside.{AreBeside, neighbours_in};
 ghost use Rattle.agent_links.specs.Links.{rows_in, pushed};
 ghost use Rattle.link_records.specs.Differences.{IsLowerLink};
-ghost use Rattle.tcp_links.specs.Plans.{IsPlan, IsNewPlan, IsSamePlan, HasNoLink, fresh_link};
+ghost use Rattle.link_records.specs.Left.{fresh_link};
+ghost use Rattle.tcp_links.specs.Plans.{IsPlan, IsNewPlan, IsSamePlan, HasNoLink};
 ghost use Rattle.node_seats.specs.Links.{AreLinksOver, IsNodeLink, AreLinksBefore, AddLinksOver, AddAllLinksOver};
 ghost use Rattle.node_seats.specs.Seats.{IsSameFrame};
 
