@@ -1,3 +1,2 @@
-mod WordLaws
 mod AnswerLaws
 mod OneLaws

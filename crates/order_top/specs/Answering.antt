@@ -1,20 +1,19 @@
--- Which answer of `dcop_order` belongs to which words and input. Refusals are those of `dcop`.
+-- Which reply of `dcop_order` belongs to which words and input. Refusals are those of `dcop`.
 use Rattle.std.specs.Prelude.{◌≡◌, ℕ, List, Result, Ok, Err}
 use Rattle.dcop_base.specs.Whole.{IsProblem}
+use Rattle.problem_text.specs.Canonical.{canonical}
 use Rattle.problem_text.specs.Declarations.{Declared}
 use Rattle.problem_text.specs.File.{TextFile}
 use Rattle.problem_text.specs.Reading.{Fault}
 use Rattle.problem_text.specs.Steps.{declared_by}
 use Rattle.problem_order.specs.Narrowed.{IsNarrowed}
 use Rattle.order_search.specs.Finding.{IsSearched}
-use Rattle.solve_report.specs.declared.answer.Answer.{Answer}
-use Rattle.solve_report.specs.declared.answer.Answer.TheVariants as answers
-use Rattle.solve_words.specs.Kinds.{number_of_words}
-use Rattle.solve_words.specs.declared.fault.WordFault.{WordFault}
-use Rattle.solve_words.specs.declared.fault.WordFault.TheVariants as words
+use Rattle.answer_io.specs.declared.status.Status.TheVariants as statuses
 use Rattle.answer_io.specs.Showing.{refused_by}
-use Rattle.answer_io.specs.Input.{Input, Unread, Broken, TooLong, Whole}
 use Rattle.answer_io.specs.Whole.{whole_read}
+use Rattle.program_frame.specs.Program.{Program, RepliesAreOne}
+use Rattle.program_frame.specs.declared.reply.Reply.{Reply}
+use Rattle.program_frame.specs.declared.reply.Reply.TheVariants.{Own, Refused}
 use Rattle.order_top.specs.declared.words.Asked.{Asked}
 use Rattle.order_top.specs.Words.{order_answer_to}
 
@@ -27,33 +26,34 @@ pub record IsOrderedAs (asked : Asked) (d : Declared) (file : TextFile) : Type 0
   pub narrowed : IsNarrowed old file
   pub searched : IsSearched old asked.tries asked.seed file
 
--- the answer is the canonical text of the file read, in the order that the search finds
-abbrev pub IsOrdered : Asked → Declared → Answer → Type 0
-IsOrdered asked d (answers.Upgraded file) = IsOrderedAs asked d file
-IsOrdered asked d answer = ⊥
+-- the reply is the canonical text of the file read, in the order that the search finds
+abbrev pub IsOrdered : Asked → Declared → Reply → Type 0
+IsOrdered asked d (Own text status) =
+    ((file : TextFile) × IsOrderedAs asked d file × (text ≡ canonical file)) × (status ≡ statuses.Solved)
+IsOrdered asked d (Refused refusal) = ⊥
 
--- the answer to a text that is read as this
-abbrev pub IsTextAnswer : Asked → Result Declared Fault → Answer → Type 0
-IsTextAnswer asked (Ok d) answer = IsOrdered asked d answer
-IsTextAnswer asked (Err fault) answer = answer ≡ refused_by fault
+-- the reply to a text that is read as this
+abbrev pub IsTextReply : Asked → Result Declared Fault → Reply → Type 0
+IsTextReply asked (Ok d) reply = IsOrdered asked d reply
+IsTextReply asked (Err fault) reply = reply ≡ Refused (refused_by fault)
 
--- the answer to an input
-abbrev pub IsInputAnswer : Asked → Input → Answer → Type 0
-IsInputAnswer asked Unread answer = ⊥
-IsInputAnswer asked Broken answer = answer ≡ answers.Read
-IsInputAnswer asked TooLong answer = answer ≡ answers.ProblemText 0 9 0
-IsInputAnswer asked (Whole bytes) answer = IsTextAnswer asked (whole_read bytes) answer
+-- a text is read
+abbrev pub IsRead : List ℕ → Type 0
+IsRead text = (declared : Declared) × (whole_read text ≡ Ok declared)
 
--- the answer to what words ask for, or to words that are refused
-abbrev pub IsAskedAnswer : Result Asked WordFault → Input → Answer → Type 0
-IsAskedAnswer (Ok asked) input answer = IsInputAnswer asked input answer
-IsAskedAnswer (Err (words.Bad at kind)) input answer = (input ≡ Unread) × (answer ≡ answers.Words at (number_of_words kind))
-IsAskedAnswer (Err words.NoMemory) input answer = ⊥
+-- the program `dcop_order`
+abbrev pub order_program : Program Asked
+order_program = record {
+  asked = order_answer_to;
+  replies = λ asked bytes. IsTextReply asked (whole_read bytes);
+  accepts = λ asked text. IsRead text;
+  ends = λ status. status ≡ statuses.Solved;
+}
 
--- the answer that belongs to words and an input
-abbrev pub IsOrderAnswer : List (List ℕ) → Input → Answer → Type 0
-IsOrderAnswer words input answer = IsAskedAnswer (order_answer_to words) input answer
-
--- the same words and the same input have one answer, and so one text
+-- the same words and the same input have one reply, and so one text
 abbrev pub OrderAnswersAreOne : Type 0
-OrderAnswersAreOne = (words : List (List ℕ)) (input : Input) (a b : Answer) → IsOrderAnswer words input a → IsOrderAnswer words input b → a ≡ b
+OrderAnswersAreOne = RepliesAreOne order_program
+
+-- what words ask for and what a text declares have one file
+abbrev pub OrderedFilesAreOne : Type 0
+OrderedFilesAreOne = (asked : Asked) (d : Declared) (f g : TextFile) → IsOrderedAs asked d f → IsOrderedAs asked d g → f ≡ g

@@ -1,0 +1,5 @@
+mod WordLaws
+mod ShowLaws
+pub mod WorkLaws
+pub mod OneLaws
+pub mod RangeLaws
