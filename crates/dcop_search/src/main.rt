@@ -7,27 +7,16 @@
 #![tactic(auto)]
 
 use dcop_edge::{StdSink, StdSource};
+use program_frame::{REFUSED_ARGUMENTS, arguments};
 use search_top::search;
 use std::process::ExitCode;
-use std::rt::Env;
-use std::{env, io};
-
-/// The code with which the program ends if it is refused its arguments. No status has it.
-const REFUSED_ARGUMENTS: u8 = 12;
 
 fn main(rt: HostRuntime) -> ExitCode {
-    let Ok(words) = words_of(&rt) else {
+    let Ok(words) = arguments(&rt) else {
         return ExitCode::from(REFUSED_ARGUMENTS);
     };
     let mut source = StdSource::new(rt.stdin());
     let mut sink = StdSink::new(rt.stdout());
     let status = search(rt.alloc(), &words, &mut source, &mut sink);
     ExitCode::from(status.code())
-}
-
-/// The arguments of the program without its own name.
-fn words_of<R: Env + AllocGlobal>(rt: &R) -> io::Result<Vec<String>> {
-    let mut arguments = env::args(rt)?;
-    arguments.next();
-    Ok(arguments.collect(rt.alloc())?)
 }

@@ -3,7 +3,6 @@ mod OutsideLaws
 mod ReorderLaws
 mod NameLaws
 mod TellLaws
-mod SearchLaws
-mod ShowLaws
+mod WordLaws
 mod AnswerLaws
 mod TextLaws

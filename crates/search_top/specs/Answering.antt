@@ -1,51 +1,60 @@
--- Which answer of `dcop_search` belongs to which words and input. Refusals are those of `dcop`.
-use Rattle.std.specs.Prelude.{◌≡◌, ℕ, List, Result, Ok, Err, IfSome}
+-- Which reply of `dcop_search` belongs to which words and input. Refusals are those of `dcop`.
+use Rattle.std.specs.Prelude.{◌≡◌, ◌⊎◌, ℕ, List, Result, Ok, Err}
 use Rattle.dcop_base.specs.Whole.{IsProblem}
+use Rattle.problem_text.specs.Declarations.{Declared}
+use Rattle.problem_text.specs.File.{TextFile}
 use Rattle.problem_text.specs.Steps.{declared_by}
 use Rattle.solve_report.specs.declared.answer.Answer.{Answer}
-use Rattle.solve_report.specs.declared.answer.Answer.TheVariants as answers
-use Rattle.solve_report.specs.AnswerText.{HasText}
-use Rattle.solve_words.specs.Kinds.{number_of_words}
-use Rattle.solve_words.specs.declared.fault.WordFault.{WordFault}
-use Rattle.solve_words.specs.declared.fault.WordFault.TheVariants as words
-use Rattle.answer_io.specs.Input.{Input, Unread, Broken, TooLong, Whole}
+use Rattle.answer_io.specs.declared.status.Status.{Status}
+use Rattle.answer_io.specs.declared.status.Status.TheVariants as statuses
 use Rattle.answer_io.specs.Inputs.{input_read}
 use Rattle.answer_io.specs.InputTold.{DeclaredInput}
+use Rattle.program_frame.specs.Program.{Program}
+use Rattle.program_frame.specs.declared.reply.Reply.{Reply}
+use Rattle.program_frame.specs.declared.reply.Reply.TheVariants.{Own, Refused}
 use Rattle.search_top.specs.Report.{IsSearchReport}
-use Rattle.search_top.specs.Text.{AreTold}
+use Rattle.search_top.specs.Text.{search_text}
 use Rattle.search_top.specs.Words.{search_answer_to}
-use Rattle.search_top.specs.declared.answer.SearchAnswer.{SearchAnswer}
-use Rattle.search_top.specs.declared.answer.SearchAnswer.TheVariants.{Searched, Refused}
+use Rattle.search_top.specs.declared.report.SearchEnding.{SearchEnding}
+use Rattle.search_top.specs.declared.report.SearchEnding.TheVariants.{Solved, Spent, NoneBetter}
+use Rattle.search_top.specs.declared.report.SearchReport.{SearchReport}
 use Rattle.search_top.specs.declared.words.Asked.{Asked}
 
--- the answer to a text that was read: the report of a search on the file that it describes
-abbrev pub IsFileAnswer : Asked → DeclaredInput → SearchAnswer → Type 0
-IsFileAnswer asked told (Searched report file) = (declared_by file ≡ told.declared) × IsProblem file.problem × IsSearchReport file.goal file.problem asked report
-IsFileAnswer asked told (Refused refusal) = ⊥
+-- the status of an ending; that of `none` has the code 10
+abbrev pub status_of_ending : SearchEnding → Status
+status_of_ending Solved = statuses.Solved
+status_of_ending Spent = statuses.Spent
+status_of_ending NoneBetter = statuses.No
 
--- the answer to a text that is read as this
-abbrev pub IsTextAnswer : Asked → Result DeclaredInput Answer → SearchAnswer → Type 0
-IsTextAnswer asked (Ok told) answer = IsFileAnswer asked told answer
-IsTextAnswer asked (Err refusal) answer = answer ≡ Refused refusal
+-- a text and a status are those of the report of a search on a file that declares this
+pub record IsReported (asked : Asked) (d : Declared) (text : List ℕ) (status : Status) : Type 0 where
+  pub report : SearchReport
+  pub file : TextFile
+  pub declared : declared_by file ≡ d
+  pub whole : IsProblem file.problem
+  pub is : IsSearchReport file.goal file.problem asked report
+  pub told : text ≡ search_text report file
+  pub ended : status ≡ status_of_ending report.ending
 
--- the answer to an input
-abbrev pub IsInputAnswer : Asked → Input → SearchAnswer → Type 0
-IsInputAnswer asked Unread answer = ⊥
-IsInputAnswer asked Broken answer = answer ≡ Refused answers.Read
-IsInputAnswer asked TooLong answer = answer ≡ Refused (answers.ProblemText 0 9 0)
-IsInputAnswer asked (Whole bytes) answer = IsTextAnswer asked (input_read asked.format bytes) answer
+-- the reply to a text that declares this: the report of a search
+abbrev pub IsFileReply : Asked → Declared → Reply → Type 0
+IsFileReply asked d (Own text status) = IsReported asked d text status
+IsFileReply asked d (Refused refusal) = ⊥
 
--- the answer to what words ask for, or to words that are refused
-abbrev pub IsAskedAnswer : Result Asked WordFault → Input → SearchAnswer → Type 0
-IsAskedAnswer (Ok asked) input answer = IsInputAnswer asked input answer
-IsAskedAnswer (Err (words.Bad at kind)) input answer = (input ≡ Unread) × (answer ≡ Refused (answers.Words at (number_of_words kind)))
-IsAskedAnswer (Err words.NoMemory) input answer = ⊥
+-- the reply to a text that is read as this
+abbrev pub IsTextReply : Asked → Result DeclaredInput Answer → Reply → Type 0
+IsTextReply asked (Ok told) reply = IsFileReply asked told.declared reply
+IsTextReply asked (Err refusal) reply = reply ≡ Refused refusal
 
--- the answer that belongs to words and an input
-abbrev pub IsSearchAnswer : List (List ℕ) → Input → SearchAnswer → Type 0
-IsSearchAnswer words input answer = IsAskedAnswer (search_answer_to words) input answer
+-- a text is read in the format that is asked for
+abbrev pub IsRead : Asked → List ℕ → Type 0
+IsRead asked text = (told : DeclaredInput) × (input_read asked.format text ≡ Ok told)
 
--- an answer that has a text: the names of the file can express the values that were found, and a refusal is one line
-abbrev pub IsTellable : SearchAnswer → Type 0
-IsTellable (Searched report file) = IfSome report.found (AreTold file)
-IsTellable (Refused refusal) = HasText refusal
+-- the program `dcop_search`
+abbrev pub search_program : Program Asked
+search_program = record {
+  asked = search_answer_to;
+  replies = λ asked bytes. IsTextReply asked (input_read asked.format bytes);
+  accepts = IsRead;
+  ends = λ status. (status ≡ statuses.Solved) ⊎ (status ≡ statuses.Spent) ⊎ (status ≡ statuses.No);
+}

@@ -7,5 +7,3 @@ pub mod Staged
 pub mod Outcomes
 pub mod Turning
 pub mod Answering
-pub mod Showing
-pub mod Searching

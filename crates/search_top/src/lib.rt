@@ -6,19 +6,16 @@
 //! report is on the file as it was read.
 #![tactic(auto)]
 
-mod answer;
 mod answering;
 mod report;
 mod reporting;
-mod showing;
 mod stages;
 mod top;
 mod turning;
 mod words;
 mod writing;
 
-pub use answer::SearchAnswer;
-pub use answer_io::Status;
+pub use program_frame::Status;
 pub use report::{Found, SearchEnding, SearchReport};
 pub use top::search;
 pub use words::Asked;

@@ -57,7 +57,9 @@ printed_traced words text asked told short logged = record {
   asked = asked;
   answered = told;
   short = short;
-  parts = logged.printed.parts;
-  front = front_is asked.format text logged.printed;
-  runs = any_run asked text logged;
+  accepted = record {
+    parts = logged.printed.parts;
+    front = front_is asked.format text logged.printed;
+    runs = any_run asked text logged;
+  };
 }

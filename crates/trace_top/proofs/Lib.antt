@@ -1,5 +1,3 @@
-mod StatusLaws
-mod ShowLaws
 mod LogLaws
 mod AnswerLaws
 mod OneLaws

@@ -20,7 +20,6 @@ use Rattle.delivery_core.specs.Faults.{FirstFault, Replays}
 use Rattle.delivery_core.specs.declared.replaying.ReplayFault.{ReplayFault}
 use Rattle.delivery_core.specs.declared.replaying.ReplayFault.TheVariants.{BadEvent, NoMemory}
 use Rattle.log_check.proofs.DifferLaws.{fault_told}
-use Rattle.minimised_problem.specs.Differences.{fault_in}
 use Rattle.minimised_problem.specs.LogHolds.{agents_for}
 use Rattle.minimised_problem.proofs.PlayedLaws.{run-lawful}
 use Rattle.report_reader.specs.ReportLines.{Fault}
@@ -31,12 +30,12 @@ use Rattle.solve_printed.specs.declared.reading.LogRead.TheVariants.{Log, Refuse
 use Rattle.solve_printed.specs.LogReads.{IsPrintedLog, IsLogRead}
 use Rattle.solve_printed.specs.Replaying.{log_up_to, IsFaultAnswer}
 use Rattle.solve_printed.proofs.LogLaws.{log-in}
-use Rattle.trace_top.specs.declared.answer.TraceAnswer.{TraceAnswer}
-use Rattle.trace_top.specs.declared.answer.TraceAnswer.TheVariants.{Traced, Refused}
+use Rattle.answer_io.specs.declared.status.Status.{Status}
+use Rattle.answer_io.specs.declared.status.Status.TheVariants as statuses
+use Rattle.program_frame.specs.declared.reply.Reply.{Reply}
+use Rattle.program_frame.specs.declared.reply.Reply.TheVariants.{Own, Refused}
 use Rattle.trace_top.specs.declared.words.Asked.{Asked}
-use Rattle.trace_top.specs.Answering.{IsTrace, IsTraceOf, IsReadTrace, AnswersTrace}
-use Rattle.trace_top.specs.Showing.{trace_status_of}
-use Rattle.trace_top.specs.Tracing.{GoesWell}
+use Rattle.trace_top.specs.Answering.{IsTrace, IsTraceOf, IsReadTrace, RepliesTrace}
 
 -- the answer that reports the first event that is not lawful
 pub fault-traced : (file : TextFile) (from : ℕ) (net : Network) (log : List LogEvent) (names : List (List ℕ)) (fault : ReplayFault) (answer : Answer) → names ≡ file.names → IsFaultAnswer names fault answer
@@ -46,22 +45,22 @@ fault-traced file from net log names (BadEvent at fault) answer same is first =
 fault-traced file from net log names NoMemory answer same is first = absurd is
 
 -- the answer to a trace of a log that a text gives
-pub trace-read : (file : TextFile) (before : ℕ) (text : List ℕ) (asked : Asked) (error : ℕ) (log : List LogEvent) (answer : TraceAnswer) → IsFile file → IsProblem file.problem
-    → IsLogRead before text (report_read text file) (Log error log) → IsTrace file asked.from (start_state (agents_for file error)) (log_up_to (Some asked.to) log) answer
-    → AnswersTrace (declared_by file) before text asked answer
-trace-read file before text asked error log answer of whole given is =
+pub trace-read : (file : TextFile) (before : ℕ) (text : List ℕ) (asked : Asked) (error : ℕ) (log : List LogEvent) (reply : Reply) → IsFile file → IsProblem file.problem
+    → IsLogRead before text (report_read text file) (Log error log) → IsTrace file asked.from (start_state (agents_for file error)) (log_up_to (Some asked.to) log) reply
+    → RepliesTrace (declared_by file) before text asked reply
+trace-read file before text asked error log reply of whole given is =
     let found = log-in before text (report_read text file) error log given in
     let report = found.0 in
-    let own : IsTrace file asked.from (start_state (agents_for file report.error)) (log_up_to (Some asked.to) log) answer =
-    subst (λ (e : ℕ). IsTrace file asked.from (start_state (agents_for file e)) (log_up_to (Some asked.to) log) answer) (sym found.2) is in
-    let by_log : IsTraceOf file before text asked report.error report.certificate answer =
-    subst (λ (c : Option Certificate). IsTraceOf file before text asked report.error c answer) (sym found.3) own in
+    let own : IsTrace file asked.from (start_state (agents_for file report.error)) (log_up_to (Some asked.to) log) reply =
+    subst (λ (e : ℕ). IsTrace file asked.from (start_state (agents_for file e)) (log_up_to (Some asked.to) log) reply) (sym found.2) is in
+    let by_log : IsTraceOf file before text asked report.error report.certificate reply =
+    subst (λ (c : Option Certificate). IsTraceOf file before text asked report.error c reply) (sym found.3) own in
     record {
       file = file;
       is_file = of;
       whole = whole;
       declared = refl;
-      is = subst (λ (r : Result Report Fault). IsReadTrace file before text asked r answer) (sym found.1) by_log;
+      is = subst (λ (r : Result Report Fault). IsReadTrace file before text asked r reply) (sym found.1) by_log;
     }
 
 -- a certificate that gives no log
@@ -79,7 +78,7 @@ text-refused file before text asked (Err fault) refusal is = cc
 
 -- the answer to a text that gives no log
 pub refusal-read : (file : TextFile) (before : ℕ) (text : List ℕ) (asked : Asked) (refusal : Answer) → IsFile file → IsProblem file.problem
-    → IsLogRead before text (report_read text file) (Unread refusal) → AnswersTrace (declared_by file) before text asked (Refused refusal)
+    → IsLogRead before text (report_read text file) (Unread refusal) → RepliesTrace (declared_by file) before text asked (Refused refusal)
 refusal-read file before text asked refusal of whole is = record {
   file = file;
   is_file = of;
@@ -104,7 +103,7 @@ no_fault : (net end : Network) (log : List LogEvent) (place : ℕ) (fault : Even
 no_fault net end log place fault ran first =
     none-some (differences.Event (1 + place) fault) (sym (run-lawful 1 net end log ran).0 ∙ fault_told 1 net log place fault first)
 
--- a trace of a run goes well
+-- a run is not refused
 module _ (file : TextFile) (from : ℕ) (net end : Network) (log : List LogEvent) (ran : run net (events_of log) ≡ Some end) where
   differs_traced : (differs : Differs) (names : List (List ℕ)) → ¬ IsTrace file from net log (Refused (answers.Verdict (No differs) names))
   differs_traced (differences.Event at fault) names is = no_fault net end log is.1.0 fault ran is.1.2
@@ -152,17 +151,26 @@ module _ (file : TextFile) (from : ℕ) (net end : Network) (log : List LogEvent
   refusal_traced (answers.LinkDiffers from to at sent taken links) is = is
   refusal_traced (answers.LinkBytes round from_node to_node place sent taken) is = is
 
-  pub run_traced : (answer : TraceAnswer) → IsTrace file from net log answer → GoesWell (trace_status_of answer)
-  run_traced (Traced text) is = tt
-  run_traced (Refused refusal) is = absurd (refusal_traced refusal is)
+-- a report is not refused if it was read and has a log whose events, up to the last one asked for,
+-- are a run
+pub report-well : (file : TextFile) (before : ℕ) (text : List ℕ) (asked : Asked) (read : Result Report Fault) (report : Report) (log : List LogEvent) (end : Network) (refusal : Answer)
+    → read ≡ Ok report → report.certificate ≡ Some (certificates.Log log) → run (start_state (agents_for file report.error)) (events_of (log_up_to (Some asked.to) log)) ≡ Some end
+    → ¬ IsReadTrace file before text asked read (Refused refusal)
+report-well file before text asked read report log end refusal told some ran is =
+    let by_report : IsTraceOf file before text asked report.error report.certificate (Refused refusal) = subst (λ (r : Result Report Fault). IsReadTrace file before text asked r (Refused refusal)) told is in
+    let traced : IsTrace file asked.from (start_state (agents_for file report.error)) (log_up_to (Some asked.to) log) (Refused refusal) =
+    subst (λ (c : Option Certificate). IsTraceOf file before text asked report.error c (Refused refusal)) some by_report in
+    refusal_traced file asked.from (start_state (agents_for file report.error)) end (log_up_to (Some asked.to) log) ran refusal traced
 
--- a report is traced if it was read and has a log whose events, up to the last one asked for, are a
--- run
-pub report-well : (file : TextFile) (before : ℕ) (text : List ℕ) (asked : Asked) (read : Result Report Fault) (report : Report) (log : List LogEvent) (end : Network) (answer : TraceAnswer)
-    → IsReadTrace file before text asked read answer → read ≡ Ok report → report.certificate ≡ Some (certificates.Log log)
-    → run (start_state (agents_for file report.error)) (events_of (log_up_to (Some asked.to) log)) ≡ Some end → GoesWell (trace_status_of answer)
-report-well file before text asked read report log end answer is told some ran =
-    let by_report : IsTraceOf file before text asked report.error report.certificate answer = subst (λ (r : Result Report Fault). IsReadTrace file before text asked r answer) told is in
-    let traced : IsTrace file asked.from (start_state (agents_for file report.error)) (log_up_to (Some asked.to) log) answer =
-    subst (λ (c : Option Certificate). IsTraceOf file before text asked report.error c answer) some by_report in
-    run_traced file asked.from (start_state (agents_for file report.error)) end (log_up_to (Some asked.to) log) ran answer traced
+-- a text of the program's own ends as solved
+certificate-own : (file : TextFile) (before : ℕ) (text : List ℕ) (asked : Asked) (error : ℕ) (certificate : Option Certificate) (own : List ℕ) (status : Status)
+    → IsTraceOf file before text asked error certificate (Own own status) → status ≡ statuses.Solved
+certificate-own file before text asked error (Some (certificates.Log log)) own status is = is.1
+certificate-own file before text asked error (Some (certificates.Tables utils)) own status is = cc
+certificate-own file before text asked error (Some (certificates.Cut cut turns)) own status is = cc
+certificate-own file before text asked error None own status is = cc
+
+pub report-own : (file : TextFile) (before : ℕ) (text : List ℕ) (asked : Asked) (read : Result Report Fault) (own : List ℕ) (status : Status)
+    → IsReadTrace file before text asked read (Own own status) → status ≡ statuses.Solved
+report-own file before text asked (Ok report) own status is = certificate-own file before text asked report.error report.certificate own status is
+report-own file before text asked (Err fault) own status is = cc

@@ -1,4 +1,4 @@
--- Words and an input have one answer.
+-- Words and an input have one reply.
 use Rattle.std.proofs.Common.{◌≡◌, ℕ, ◌+◌, List, length, take, drop, Option, Some, None, Result, Ok, Err, sym, ap, ap₂, subst, ◌∙◌, arith}
 use Rattle.dcop_base.specs.Graph.{AreJoints}
 use Rattle.dcop_base.specs.Whole.{IsProblem}
@@ -27,15 +27,15 @@ use Rattle.log_check.proofs.DifferLaws.{fault_told}
 use Rattle.solve_report.specs.declared.answer.Answer.{Answer}
 use Rattle.solve_report.specs.declared.answer.Answer.TheVariants as answers
 use Rattle.solve_printed.specs.Replaying.{log_up_to, TellsEventFault}
-use Rattle.solve_words.specs.declared.fault.WordFault.{WordFault}
-use Rattle.solve_words.specs.declared.fault.WordFault.TheVariants as words
-use Rattle.answer_io.specs.Input.{Input, Unread, Broken, TooLong, Whole}
+use Rattle.answer_io.specs.declared.status.Status.{Status}
+use Rattle.answer_io.specs.declared.status.Status.TheVariants as statuses
 use Rattle.answer_io.specs.Fronts.{front_read, lines_in}
+use Rattle.program_frame.proofs.OneLaws.{replies_one}
+use Rattle.program_frame.specs.declared.reply.Reply.{Reply}
+use Rattle.program_frame.specs.declared.reply.Reply.TheVariants.{Own, Refused}
+use Rattle.trace_top.specs.Answering.{IsTrace, IsTraceOf, IsReadTrace, RepliesTrace, IsTextReply}
+use Rattle.trace_top.specs.Tracing.{trace_program, TraceAnswersAreOne}
 use Rattle.trace_text.specs.Trace.{trace_text}
-use Rattle.trace_top.specs.Answering.{IsTrace, IsTraceOf, IsReadTrace, AnswersTrace, IsTextAnswer, IsInputAnswer, IsAskedAnswer, TraceAnswersAreOne}
-use Rattle.trace_top.specs.Words.{trace_answer_to}
-use Rattle.trace_top.specs.declared.answer.TraceAnswer.{TraceAnswer}
-use Rattle.trace_top.specs.declared.answer.TraceAnswer.TheVariants.{Traced, Refused}
 use Rattle.trace_top.specs.declared.words.Asked.{Asked}
 
 -- the file that declares this, with these joints
@@ -55,17 +55,17 @@ one_file f g of_f of_g e =
     (AreJoints-unique (length g.problem.sizes) g.problem.tables f.problem.joints g.problem.joints
     (subst (λ (d : Declared). AreJoints (length d.sizes) d.tables f.problem.joints) e of_f.joints) of_g.joints)
 
--- the answer to these events is the one that their first fault gives: a trace if there is none
+-- the reply to these events is the one that their first fault gives: a trace if there is none
 module _ (file : TextFile) (from : ℕ) (net : Network) (log : List LogEvent) where
-  abbrev traced_by : Option Differs → TraceAnswer
-  traced_by None = Traced (trace_text file.names from net log)
+  abbrev traced_by : Option Differs → Reply
+  traced_by None = Own (trace_text file.names from net log) statuses.Solved
   traced_by (Some differs) = Refused (answers.Verdict (No differs) file.names)
 
-  abbrev only : TraceAnswer
+  abbrev only : Reply
   only = traced_by (fault_in 1 net log)
 
-  text_only : (text : List ℕ) → IsTrace file from net log (Traced text) → Traced text ≡ only
-  text_only text is = ap Traced is.2 ∙ sym (ap traced_by (run-lawful 1 net is.0 log is.1).0)
+  text_only : (text : List ℕ) (status : Status) → IsTrace file from net log (Own text status) → Own text status ≡ only
+  text_only text status is = ap₂ Own is.0.2 is.1 ∙ sym (ap traced_by (run-lawful 1 net is.0.0 log is.0.1).0)
 
   fault_only : (at : ℕ) (fault : EventFault) (names : List (List ℕ)) → names ≡ file.names → TellsEventFault net (events_of log) at fault
       → Refused (answers.Verdict (No (differences.Event at fault)) names) ≡ only
@@ -120,11 +120,11 @@ module _ (file : TextFile) (from : ℕ) (net : Network) (log : List LogEvent) wh
   refusal_only (answers.LinkDiffers from to at sent taken links) is = absurd is
   refusal_only (answers.LinkBytes round from_node to_node place sent taken) is = absurd is
 
-  trace_only : (answer : TraceAnswer) → IsTrace file from net log answer → answer ≡ only
-  trace_only (Traced text) is = text_only text is
+  trace_only : (reply : Reply) → IsTrace file from net log reply → reply ≡ only
+  trace_only (Own text status) is = text_only text status is
   trace_only (Refused refusal) is = refusal_only refusal is
 
-one_trace_of : (file : TextFile) (before : ℕ) (text : List ℕ) (asked : Asked) (error : ℕ) (certificate : Option Certificate) (a b : TraceAnswer)
+one_trace_of : (file : TextFile) (before : ℕ) (text : List ℕ) (asked : Asked) (error : ℕ) (certificate : Option Certificate) (a b : Reply)
     → IsTraceOf file before text asked error certificate a → IsTraceOf file before text asked error certificate b → a ≡ b
 one_trace_of file before text asked error (Some (certificates.Log log)) a b of_a of_b =
     let net : Network = start_state (agents_for file error) in
@@ -133,31 +133,20 @@ one_trace_of file before text asked error (Some (certificates.Tables utils)) a b
 one_trace_of file before text asked error (Some (certificates.Cut cut turns)) a b of_a of_b = of_a ∙ sym of_b
 one_trace_of file before text asked error None a b of_a of_b = of_a ∙ sym of_b
 
-one_read : (file : TextFile) (before : ℕ) (text : List ℕ) (asked : Asked) (read : Result Report Fault) (a b : TraceAnswer)
+one_read : (file : TextFile) (before : ℕ) (text : List ℕ) (asked : Asked) (read : Result Report Fault) (a b : Reply)
     → IsReadTrace file before text asked read a → IsReadTrace file before text asked read b → a ≡ b
 one_read file before text asked (Ok report) a b of_a of_b = one_trace_of file before text asked report.error report.certificate a b of_a of_b
 one_read file before text asked (Err fault) a b of_a of_b = of_a ∙ sym of_b
 
-one_declared : (d : Declared) (before : ℕ) (text : List ℕ) (asked : Asked) (a b : TraceAnswer) → AnswersTrace d before text asked a → AnswersTrace d before text asked b → a ≡ b
+one_declared : (d : Declared) (before : ℕ) (text : List ℕ) (asked : Asked) (a b : Reply) → RepliesTrace d before text asked a → RepliesTrace d before text asked b → a ≡ b
 one_declared d before text asked a b of_a of_b =
     let same : of_b.file ≡ of_a.file = one_file of_b.file of_a.file of_b.whole of_a.whole (of_b.declared ∙ sym of_a.declared) in
     one_read of_a.file before text asked (report_read text of_a.file) a b of_a.is
     (subst (λ (f : TextFile). IsReadTrace f before text asked (report_read text f) b) same of_b.is)
 
-one_text : (bytes : List ℕ) (asked : Asked) (read : Result Parts Answer) (a b : TraceAnswer) → IsTextAnswer bytes asked read a → IsTextAnswer bytes asked read b → a ≡ b
+one_text : (bytes : List ℕ) (asked : Asked) (read : Result Parts Answer) (a b : Reply) → IsTextReply bytes asked read a → IsTextReply bytes asked read b → a ≡ b
 one_text bytes asked (Ok parts) a b of_a of_b = one_declared parts.declared (lines_in (take parts.used bytes)) (drop parts.used bytes) asked a b of_a of_b
 one_text bytes asked (Err refusal) a b of_a of_b = of_a ∙ sym of_b
 
-one_input : (asked : Asked) (input : Input) (a b : TraceAnswer) → IsInputAnswer asked input a → IsInputAnswer asked input b → a ≡ b
-one_input asked Unread a b of_a of_b = absurd of_a
-one_input asked Broken a b of_a of_b = of_a ∙ sym of_b
-one_input asked TooLong a b of_a of_b = of_a ∙ sym of_b
-one_input asked (Whole bytes) a b of_a of_b = one_text bytes asked (front_read asked.format bytes) a b of_a of_b
-
-one_asked : (asked : Result Asked WordFault) (input : Input) (a b : TraceAnswer) → IsAskedAnswer asked input a → IsAskedAnswer asked input b → a ≡ b
-one_asked (Ok asked) input a b of_a of_b = one_input asked input a b of_a of_b
-one_asked (Err (words.Bad at kind)) input a b of_a of_b = of_a.1 ∙ sym of_b.1
-one_asked (Err words.NoMemory) input a b of_a of_b = absurd of_a
-
 pub trace_answers_one : TraceAnswersAreOne
-trace_answers_one words input a b of_a of_b = one_asked (trace_answer_to words) input a b of_a of_b
+trace_answers_one = replies_one trace_program (λ asked bytes. one_text bytes asked (front_read asked.format bytes))

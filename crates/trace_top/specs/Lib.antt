@@ -1,4 +1,3 @@
 pub mod Words
 pub mod Answering
-pub mod Showing
 pub mod Tracing

@@ -1,4 +1,4 @@
-//! The answer to words and a source.
+//! The reply to words and a source.
 
 ghost use Rattle.std.specs.Prelude.{◌≡◌, ◌+◌, ◌≤◌, length, map, IfOk, OnErr, string_bytes};
 ghost use Rattle.std.specs.List.{All};
@@ -13,88 +13,73 @@ ghost use Rattle.minimised_problem.specs.LogHolds.{agents_for};
 ghost use Rattle.answer_io.specs.Input.{source_state};
 ghost use Rattle.answer_io.specs.Fronts.{front_read};
 ghost use Rattle.trace_text.specs.Trace.{Traces};
-ghost use Rattle.trace_top.specs.Answering.{AnswersTrace, IsTellable, IsTextAnswer, IsTrace};
-ghost use Rattle.trace_top.specs.Tracing.{IsAnswered};
+ghost use Rattle.program_frame.specs.Program.{IsReplied};
+ghost use Rattle.program_frame.specs.Replies.{IsShowable};
+ghost use Rattle.trace_top.specs.Answering.{RepliesTrace, IsTextReply, IsTrace};
+ghost use Rattle.trace_top.specs.Tracing.{trace_program};
 
-use crate::answer::TraceAnswer;
 use crate::words::{Asked, read_trace_words};
-use answer_io::{
-    InputFault, ReadEnd, fault_answer, lines_in, read_all, read_front, wcsp_answer, words_answer,
-};
+use answer_io::{InputFault, fault_answer, lines_in, read_front, wcsp_answer};
 use dcop_base::{Bytes, NoMemory, Problem, problem_is_whole};
 use dcop_edge::Source;
 use delivery_core::ReplayFault;
 use log_check::start_for;
 use minimised_problem::ProblemSolved;
-use problem_text::{Names, ProblemFile, TextKind};
+use problem_text::{Names, ProblemFile};
+use program_frame::{Question, Reply, Status, question_of};
 use run_log::LogEvent;
 use solve_printed::{LogRead, log_up_to, read_log};
-use solve_report::Answer;
-use solve_words::WordFault;
 use std::alloc::Global;
 use trace_text::write_trace;
 
-/// Finds the answer to words, and reads all that the source has left if the words are accepted.
+/// Finds the reply to words, and reads all that the source has left if the words are accepted.
 ///
 /// The words are tested before anything is read.
-pub(crate) fn answer_of<S: Source>(
+pub(crate) fn reply_to<S: Source>(
     alloc: Global,
     words: &[String],
     source: &mut S,
-) -> Result<TraceAnswer, NoMemory>
-    ensures answered { IfOk result (IsAnswered (map string_bytes words.now)
+) -> Result<Reply, NoMemory>
+    ensures replied { IfOk result (IsReplied trace_program (map string_bytes words.now)
         (source_state (S.left source.old) (S.faults source.old))
         (source_state (S.left source.new) (S.faults source.new))) }
-    ensures told { IfOk result IsTellable }
+    ensures told { IfOk result IsShowable }
     ensures quiet { OnErr result (S.faults source.new ≡ S.faults source.old) }
 {
-    let asked = match read_trace_words(words) {
-        Ok(asked) => asked,
-        Err(WordFault::Bad { at, kind }) => {
-            return Ok(TraceAnswer::Refused(words_answer(at, kind)));
-        }
-        Err(WordFault::NoMemory) => return Err(NoMemory),
-    };
-    match read_all(alloc, source) {
-        Ok(bytes) => text_answer(alloc, asked, bytes.as_slice()),
-        Err(ReadEnd::Failed) => Ok(TraceAnswer::Refused(Answer::Read)),
-        Err(ReadEnd::TooLong) => Ok(TraceAnswer::Refused(fault_answer(0, TextKind::TooLong))),
-        Err(ReadEnd::NoMemory) => Err(NoMemory),
+    match question_of(alloc, read_trace_words(words), source)? {
+        Question::Text { asked, bytes } => text_reply(alloc, asked, bytes.as_slice()),
+        Question::Refused(refusal) => Ok(Reply::Refused(refusal)),
     }
 }
 
-/// The answer to all bytes of an input.
-fn text_answer(alloc: Global, asked: Asked, bytes: &[u8]) -> Result<TraceAnswer, NoMemory>
+/// The reply to all bytes of an input.
+fn text_reply(alloc: Global, asked: Asked, bytes: &[u8]) -> Result<Reply, NoMemory>
     requires short { length bytes.now ≤ input_limit }
-    ensures belongs { IfOk result (IsTextAnswer bytes.now asked (front_read asked.format bytes.now)) }
-    ensures told { IfOk result IsTellable }
+    ensures belongs { IfOk result (IsTextReply bytes.now asked (front_read asked.format bytes.now)) }
+    ensures told { IfOk result IsShowable }
 {
     match read_front(alloc, asked.format, bytes) {
         Ok(read) => {
             let (before, text) = bytes.split_at(read.used);
             report_trace(alloc, asked, read.file, text, lines_in(before))
         }
-        Err(InputFault::Text { line, kind }) => {
-            Ok(TraceAnswer::Refused(fault_answer(line, kind)))
-        }
-        Err(InputFault::Wcsp { line, kind }) => {
-            Ok(TraceAnswer::Refused(wcsp_answer(line, kind)))
-        }
+        Err(InputFault::Text { line, kind }) => { Ok(Reply::Refused(fault_answer(line, kind))) }
+        Err(InputFault::Wcsp { line, kind }) => { Ok(Reply::Refused(wcsp_answer(line, kind))) }
         Err(InputFault::NoMemory) => Err(NoMemory),
     }
 }
 
-/// The answer to the text of a report on a file, which follows `before` lines of the input.
+/// The reply to the text of a report on a file, which follows `before` lines of the input.
 fn report_trace(
     alloc: Global,
     asked: Asked,
     file: ProblemFile,
     text: &[u8],
     before: u64,
-) -> Result<TraceAnswer, NoMemory>
+) -> Result<Reply, NoMemory>
     requires few { before + length text.now ≤ input_limit }
-    ensures belongs { IfOk result (AnswersTrace (declared_by file) before text.now asked) }
-    ensures told { IfOk result IsTellable }
+    ensures belongs { IfOk result (RepliesTrace (declared_by file) before text.now asked) }
+    ensures told { IfOk result IsShowable }
 {
     whole_problem(&file);
     match read_log(alloc, &file, text, before)? {
@@ -108,7 +93,7 @@ fn report_trace(
                 log_up_to(log.as_slice(), last),
             )
         }
-        LogRead::Refused(refusal) => Ok(TraceAnswer::Refused(refusal)),
+        LogRead::Refused(refusal) => Ok(Reply::Refused(refusal)),
     }
 }
 
@@ -120,24 +105,27 @@ fn whole_problem(file: &ProblemFile)
     problem_is_whole(&file.problem);
 }
 
-/// The answer to a trace of these events from the event with this number on, for a requested error.
+/// The reply to a trace of these events from the event with this number on, for a requested error.
 fn traced(
     alloc: Global,
     from: u64,
     file: ProblemFile,
     error: u64,
     log: &[LogEvent],
-) -> Result<TraceAnswer, NoMemory>
+) -> Result<Reply, NoMemory>
     requires error { error ≤ amount_limit }
     requires events { All (FitsEvent (length file.problem.sizes)) log.now }
     ensures belongs { IfOk result (IsTrace file from (start_state (agents_for file error)) log.now) }
-    ensures told { IfOk result IsTellable }
+    ensures told { IfOk result IsShowable }
 {
     match trace_of(alloc, &file, from, error, log) {
-        Ok(text) => Ok(TraceAnswer::Traced(text)),
+        Ok(text) => Ok(Reply::Own {
+            text,
+            status: Status::Solved,
+        }),
         Err(fault) => {
             let refusal = solve_printed::fault_answer(file.names, fault)?;
-            Ok(TraceAnswer::Refused(refusal))
+            Ok(Reply::Refused(refusal))
         }
     }
 }

@@ -1,16 +1,15 @@
 //! The top call.
 
-ghost use Rattle.std.specs.Prelude.{◌≡◌, ◌≢◌, ◌⊎◌, ℕ, List, Some, map, string_bytes};
-ghost use Rattle.dcop_edge.specs.Faults.{Rose};
+ghost use Rattle.std.specs.Prelude.{◌≡◌, map, string_bytes};
 ghost use Rattle.answer_io.specs.Input.{source_state};
 ghost use Rattle.answer_io.specs.Output.{sink_state};
-ghost use Rattle.answer_io.specs.Showing.{StaysUnless};
-ghost use Rattle.trace_top.specs.Tracing.{Tells, IsAccepted, GoesWell};
+ghost use Rattle.program_frame.specs.Working.{Works};
+ghost use Rattle.trace_top.specs.Tracing.{trace_program};
 
-use crate::answering::answer_of;
-use crate::showing::show_answer;
-use answer_io::Status;
+use crate::answering::reply_to;
+use dcop_base::NoMemory;
 use dcop_edge::{Sink, Source};
+use program_frame::{Status, show_reply};
 use std::alloc::Global;
 
 /// Answers these words, which are the arguments of the program: reads a problem and the report with
@@ -34,28 +33,16 @@ pub fn trace<S: Source, K: Sink>(
     source: &mut S,
     sink: &mut K,
 ) -> Status
-    ensures answered { result ≢ Status.NoMemory → Tells (map string_bytes words.now)
+    ensures works { Works trace_program (map string_bytes words.now)
         (source_state (S.left source.old) (S.faults source.old))
         (source_state (S.left source.new) (S.faults source.new))
         (sink_state (K.held sink.old) (K.finished sink.old))
-        (sink_state (K.held sink.new) (K.finished sink.new)) result }
+        (sink_state (K.held sink.new) (K.finished sink.new))
+        (K.faults sink.old) (K.faults sink.new) result }
     ensures unwritten { result ≡ Status.NoMemory → sink.new ≡ sink.old }
-    ensures read_fault { result ≡ Status.ReadFault →
-        Rose (S.faults source.old) (S.faults source.new) }
-    ensures write_fault { result ≡ Status.WriteFault →
-        Rose (K.faults sink.old) (K.faults sink.new) }
-    ensures source_failed { StaysUnless (S.faults source.old) (S.faults source.new)
-        ((result ≡ Status.ReadFault) ⊎ (result ≡ Status.WriteFault) ⊎ (result ≡ Status.NoMemory)) }
-    ensures sink_failed { StaysUnless (K.faults sink.old) (K.faults sink.new)
-        (result ≡ Status.WriteFault) }
-    ensures complete { (text : List ℕ) → S.left source.old ≡ Some text →
-        IsAccepted (map string_bytes words.now) text →
-        ¬ Rose (S.faults source.old) (S.faults source.new) →
-        ¬ Rose (K.faults sink.old) (K.faults sink.new) →
-        GoesWell result }
 {
-    let Ok(answer) = answer_of(alloc, words, source) else {
-        return Status::NoMemory;
-    };
-    show_answer(alloc, &answer, sink)
+    match reply_to(alloc, words, source) {
+        Ok(reply) => show_reply(alloc, &reply, sink),
+        Err(NoMemory) => Status::NoMemory,
+    }
 }

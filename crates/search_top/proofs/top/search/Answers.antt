@@ -1,29 +1,7 @@
-use Rattle.search_top.specs.Searching.{GoesWell}
-use Rattle.search_top.proofs.AnswerLaws.{rose-answered, stays-answered, well-answered}
-use Rattle.search_top.proofs.ShowLaws.{shown-so, read-so, write-so, source-stays, sink-stays, status-so}
+use Rattle.program_frame.proofs.WorkLaws.{shown-works}
+use Rattle.search_top.specs.Answering.{search_program}
+use Rattle.search_top.proofs.AnswerLaws.{search-sound}
 use Rattle.search_top.proofs.top.search.Goals as goal
 
-pub returns-clause-answered : goal.returns-clause-answered
-returns-clause-answered g c = λ some. record {
-  answer = c.in-Ok.answer;
-  answered = c.in-Ok.ensures.answered;
-  shown = shown-so c.in-Ok.answer _ _ _ _ _ c.show_answer.ensures.shows some;
-}
-
-pub returns-clause-read_fault : goal.returns-clause-read_fault
-returns-clause-read_fault g c = λ fault.
-    rose-answered _ _ _ c.in-Ok.answer c.in-Ok.ensures.answered (read-so c.in-Ok.answer _ _ _ _ _ c.show_answer.ensures.shows fault)
-
-pub returns-clause-write_fault : goal.returns-clause-write_fault
-returns-clause-write_fault g c = λ fault. write-so c.in-Ok.answer _ _ _ _ _ c.show_answer.ensures.shows fault
-
-pub returns-clause-source_failed : goal.returns-clause-source_failed
-returns-clause-source_failed g c =
-    source-stays _ _ c.in-Ok.answer _ _ _ _ _ c.show_answer.ensures.shows (stays-answered _ _ _ c.in-Ok.answer c.in-Ok.ensures.answered)
-
-pub returns-clause-sink_failed : goal.returns-clause-sink_failed
-returns-clause-sink_failed g c = sink-stays c.in-Ok.answer _ _ _ _ _ c.show_answer.ensures.shows
-
-pub returns-clause-complete : goal.returns-clause-complete
-returns-clause-complete g c = λ text told accepted steady quiet.
-    status-so GoesWell c.in-Ok.answer _ _ _ _ _ c.show_answer.ensures.shows quiet tt (well-answered _ text _ _ c.in-Ok.answer c.in-Ok.ensures.answered told accepted steady)
+pub returns-in-Ok-clause-works : goal.returns-in-Ok-clause-works
+returns-in-Ok-clause-works g c = shown-works search_program search-sound _ _ _ c.in-Ok.reply c.in-Ok.ensures.replied _ _ _ _ _ c.show_reply.ensures.shows

@@ -9,7 +9,7 @@ use Rattle.minimised_problem.specs.LogHolds.{agents_for}
 use Rattle.solve_printed.specs.LogReads.{IsLogRead, IsPlayable}
 use Rattle.solve_printed.specs.Replaying.{log_up_to}
 use Rattle.solve_printed.proofs.ReplayLaws.{shown-fit}
-use Rattle.trace_top.specs.Answering.{IsTrace, AnswersTrace}
+use Rattle.trace_top.specs.Answering.{IsTrace, RepliesTrace}
 use Rattle.trace_top.proofs.LogLaws.{trace-read, refusal-read}
 use Rattle.trace_top.proofs.answering.report_trace.Goals as goal
 
@@ -26,9 +26,9 @@ returns-in-Log-clause-belongs c =
     let whole : IsFile c.args.file = rw (← c.file.view_is) c.file.invariant in
     let given = subst (IsLogRead c.args.before text (report_read text c.args.file)) c.in-Log.is c.in_ok-error.ensures.read in
     let shown : c.log_up_to.result.now ≡ log_up_to (Some c.args.asked.to) c.in-Log.log = c.log_up_to.ensures ∙ ap (log_up_to (Some c.args.asked.to)) c.as_slice.ensures in
-    IfOk-weaker c.traced.result (IsTrace c.args.file c.args.asked.from net c.log_up_to.result.now) (AnswersTrace (declared_by c.args.file) c.args.before text c.args.asked)
-    (λ answer is. trace-read c.args.file c.args.before text c.args.asked c.in-Log.error c.in-Log.log answer whole c.whole_problem.ensures given
-    (subst (λ (log : List LogEvent). IsTrace c.args.file c.args.asked.from net log answer) shown is)) c.traced.ensures.belongs
+    IfOk-weaker c.traced.result (IsTrace c.args.file c.args.asked.from net c.log_up_to.result.now) (RepliesTrace (declared_by c.args.file) c.args.before text c.args.asked)
+    (λ reply is. trace-read c.args.file c.args.before text c.args.asked c.in-Log.error c.in-Log.log reply whole c.whole_problem.ensures given
+    (subst (λ (log : List LogEvent). IsTrace c.args.file c.args.asked.from net log reply) shown is)) c.traced.ensures.belongs
 
 pub returns-in-Refused-clause-belongs : goal.returns-in-Refused-clause-belongs
 returns-in-Refused-clause-belongs c =

@@ -1,4 +1,4 @@
-use Rattle.std.proofs.Common.{◌≡◌, List, ℕ, length, sym, ap, ◌∙◌}
+use Rattle.std.proofs.Common.{◌≡◌, length, sym, ap, ◌∙◌}
 use Rattle.problem_text.specs.File.{TextFile, IsFile}
 use Rattle.protocol_steps.specs.Network.{Network, start_state}
 use Rattle.minimised_problem.specs.LogHolds.{agents_for}
