@@ -39,9 +39,8 @@ def opening(run: dict[str, Any], count: int) -> str:
         f"The {count} crates, layer by layer from below. A crate uses only crates above it on this page. \"Uses\" leaves out a crate "
         "if another crate in the same cell uses it. \"Used by\" counts the crates that use it, directly or through others.\n\n"
         "\"Proof\" is the processor time, in seconds, for proving a crate and building its library or program. \"Tests\" is that for its tests. "
-        "\"All again\" is the minutes of a "
-        "processor for the crate and all that \"Used by\" counts, if the crate changes. A dash means that there are none, or that the crate was not "
-        "measured. A \"row\" of a test program is one of its tests.\n\n"
+        "\"All again\" is the processor time, in minutes, for a crate and all that use it: what a change of the crate can take. A dash means that "
+        "there are no tests, or that the crate was not measured. A \"row\" of a test program is one of its tests.\n\n"
         f"{run['says']}\n"
     )
 
