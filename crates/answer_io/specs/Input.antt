@@ -25,43 +25,54 @@ abbrev pub end_of : ReadFault → ReadEnd
 end_of faults.Failed = ends.Failed
 end_of faults.NoMemory = ends.NoMemory
 
--- the state of a source: the bytes that it has left, if they are known, and its count of faults
+-- the state of a source: the bytes that it has left, if they are known; its count of faults; and the
+-- number of its reads
 pub record SourceState : Type 0 where
   pub left : Option (List ℕ)
   pub faults : ℕ
+  pub reads : ℕ
 
--- the state of a source with these bytes left and this count of faults
-abbrev pub source_state : Option (List ℕ) → ℕ → SourceState
-source_state left faults = record { left = left; faults = faults }
+-- the state of a source with these bytes left, this count of faults and this number of reads
+abbrev pub source_state : Option (List ℕ) → ℕ → ℕ → SourceState
+source_state left faults reads = record { left = left; faults = faults; reads = reads }
 
--- if a source's bytes are known, it had exactly these left before, and has none left after
+-- if a source's bytes are known, it had exactly these left before, and has none left after; if they
+-- are unknown, they stay so
 abbrev pub IsAllOf : List ℕ → Option (List ℕ) → Option (List ℕ) → Type 0
-IsAllOf bytes None after = Unit {0}
+IsAllOf bytes None after = after ≡ None
 IsAllOf bytes (Some left) after = (bytes ≡ left) × (after ≡ Some [])
 
--- at least `least` and at most `most` bytes were taken from a source; if its bytes are known, these
--- were the first of them, and the others are left
-pub record Took (least most : ℕ) (before after : Option (List ℕ)) : Type 0 where
+-- each read but the last took at least one of these bytes
+abbrev pub AreReadsOf : List ℕ → SourceState → SourceState → Type 0
+AreReadsOf bytes before after = after.reads ≤ before.reads + length bytes + 1
+
+-- at least `least` and at most `most` bytes were taken from a source, by reads of which each but the
+-- last took at least one; if its bytes are known, these were the first of them, and the others are
+-- left
+pub record Took (least most : ℕ) (before after : SourceState) : Type 0 where
   pub bytes : List ℕ
-  pub front : before ≡ prepend_known bytes after
+  pub front : before.left ≡ prepend_known bytes after.left
   pub many : least ≤ length bytes
   pub few : length bytes ≤ most
+  pub reads : AreReadsOf bytes before after
 
 -- what was read from a source with this state before and this state after. Of an input that is too
 -- long, more than input_limit bytes were taken, and at most read_limit above that limit. The count
--- of faults rose if the source failed, and is otherwise as it was
+-- of faults rose if the source failed, and is otherwise as it was. Each read but the last took at
+-- least one byte
 abbrev pub IsReadFrom : Input → SourceState → SourceState → Type 0
 IsReadFrom Unread before after = after ≡ before
 IsReadFrom Broken before after =
-    Rose before.faults after.faults × (before.faults ≤ after.faults) × Took 0 input_limit before.left after.left
+    Rose before.faults after.faults × (before.faults ≤ after.faults) × Took 0 input_limit before after
 IsReadFrom TooLong before after =
-    Took (input_limit + 1) (input_limit + read_limit) before.left after.left × (after.faults ≡ before.faults)
+    Took (input_limit + 1) (input_limit + read_limit) before after × (after.faults ≡ before.faults)
 IsReadFrom (Whole bytes) before after =
     (length bytes ≤ input_limit) × IsAllOf bytes before.left after.left × (after.faults ≡ before.faults)
+    × AreReadsOf bytes before after
 
 -- a reading to the end has this result; if memory ran out, no more was taken than an input may have
 abbrev pub IsReading : Result (List ℕ) ReadEnd → SourceState → SourceState → Type 0
 IsReading (Ok bytes) before after = IsReadFrom (Whole bytes) before after
 IsReading (Err ends.Failed) before after = IsReadFrom Broken before after
 IsReading (Err ends.TooLong) before after = IsReadFrom TooLong before after
-IsReading (Err ends.NoMemory) before after = Took 0 input_limit before.left after.left × (after.faults ≡ before.faults)
+IsReading (Err ends.NoMemory) before after = Took 0 input_limit before after × (after.faults ≡ before.faults)

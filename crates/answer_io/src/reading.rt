@@ -35,7 +35,8 @@ impl From<ReadFault> for ReadEnd {
     }
 }
 
-/// Reads all bytes that the source has left, unless they are more than [`MAX_INPUT`].
+/// Reads all bytes that the source has left, unless they are more than [`MAX_INPUT`]. Each read but
+/// the last takes at least one byte.
 ///
 /// # Errors
 ///
@@ -44,8 +45,8 @@ impl From<ReadFault> for ReadEnd {
 /// and at most 65,536 above that limit.
 pub fn read_all<S: Source>(alloc: Global, source: &mut S) -> Result<Bytes, ReadEnd>
     ensures { IsReading result
-        (source_state (S.left source.old) (S.faults source.old))
-        (source_state (S.left source.new) (S.faults source.new)) }
+        (source_state (S.left source.old) (S.faults source.old) (S.reads source.old))
+        (source_state (S.left source.new) (S.faults source.new) (S.reads source.new)) }
 {
     let mut bytes = Vec::new(alloc);
     while bytes.len() <= MAX_INPUT {

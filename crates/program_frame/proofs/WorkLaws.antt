@@ -143,7 +143,7 @@ module _ {A : Type 0} (p : Program A) where
         input-well : (input : Input) → IsReadFrom input source source' → IsAskedReply p (Ok accepted.asked) input reply → p.ends (reply_status reply)
         input-well Unread read is = absurd (unread-none reply is)
         input-well Broken read is = absurd (steady read.0)
-        input-well TooLong read is = let more = taken-least _ _ source.left source'.left text known read.0 in absurd (omega (arith, more, accepted.short))
+        input-well TooLong read is = let more = taken-least _ _ source source' text known read.0 in absurd (omega (arith, more, accepted.short))
         input-well (Whole bytes) read is =
             let all = subst (λ (l : Option (List ℕ)). IsAllOf bytes l source'.left) known read.1 in
             whole-well accepted.asked text reply accepted.accepted (subst (λ (t : List ℕ). p.replies accepted.asked t reply) all.0 is)

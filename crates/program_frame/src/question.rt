@@ -1,7 +1,8 @@
 //! What a program has to answer.
 
-ghost use Rattle.std.specs.Prelude.{◌≡◌, IfOk, OnErr};
-ghost use Rattle.answer_io.specs.Input.{source_state};
+ghost use Rattle.std.specs.Prelude.{◌≡◌, ◌+◌, IfOk, OnErr};
+ghost use Rattle.dcop_base.specs.Limits.{input_limit};
+ghost use Rattle.answer_io.specs.Input.{Took, read_limit, source_state};
 ghost use Rattle.program_frame.specs.Questions.{IsQuestion, IsPlain};
 
 use answer_io::{ReadEnd, fault_answer, read_all, words_answer};
@@ -32,10 +33,13 @@ pub fn question_of<A: Copy, S: Source>(
     source: &mut S,
 ) -> Result<Question<A>, NoMemory>
     ensures asked { IfOk result (IsQuestion asked
-        (source_state (S.left source.old) (S.faults source.old))
-        (source_state (S.left source.new) (S.faults source.new))) }
+        (source_state (S.left source.old) (S.faults source.old) (S.reads source.old))
+        (source_state (S.left source.new) (S.faults source.new) (S.reads source.new))) }
     ensures told { IfOk result IsPlain }
     ensures quiet { OnErr result (S.faults source.new ≡ S.faults source.old) }
+    ensures taken { Took 0 (input_limit + read_limit)
+        (source_state (S.left source.old) (S.faults source.old) (S.reads source.old))
+        (source_state (S.left source.new) (S.faults source.new) (S.reads source.new)) }
 {
     let asked = match asked {
         Ok(asked) => asked,
