@@ -1,4 +1,5 @@
 pub mod ListLaws
 pub mod LinkLaws
+mod PlaceLaws
 mod FlagLaws
 pub mod InboxLaws

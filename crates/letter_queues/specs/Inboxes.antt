@@ -18,12 +18,15 @@ abbrev pub edit_link : ℕ → (LinkView → LinkView) → List LinkView → Lis
 edit_link j f [] = []
 edit_link j f (l ∷ ls) = if l.from == j then f l ∷ ls else l ∷ edit_link j f ls
 
+-- the link after a letter arrives on it
 abbrev pub with_letter : ℕ × Message → LinkView → LinkView
 with_letter m l = record l { waiting = l.waiting ++ (m ∷ []) }
 
+-- the link after its first `count` letters that wait are removed
 abbrev pub without_next : ℕ → LinkView → LinkView
 without_next count l = record l { waiting = drop count l.waiting }
 
+-- the link after a letter that was taken is kept as its last one
 abbrev pub with_last : ℕ × Message → LinkView → LinkView
 with_last m l = record l { taken = Some m }
 

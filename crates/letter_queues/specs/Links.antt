@@ -21,18 +21,21 @@ letters_of j ms = map (λ m. (j, m)) ms
 abbrev pub link_from : ℕ → List LinkView → Option LinkView
 link_from j inbox = find (λ l. l.from == j) inbox
 
+-- the letters that wait on a link; none if there is no link
 abbrev pub waiting_on : Option LinkView → List (ℕ × Message)
 waiting_on None = []
 waiting_on (Some l) = l.waiting
 
+-- the last letter that was taken from a link, if there is one
 abbrev pub taken_on : Option LinkView → Option (ℕ × Message)
 taken_on None = None
 taken_on (Some l) = l.taken
 
--- the letters of one sender that wait, and the last one that was taken
+-- the letters of one sender that wait
 abbrev pub waiting_from : List LinkView → ℕ → List (ℕ × Message)
 waiting_from inbox j = waiting_on (link_from j inbox)
 
+-- the last letter of one sender that was taken, if there is one
 abbrev pub last_taken : List LinkView → ℕ → Option (ℕ × Message)
 last_taken inbox j = taken_on (link_from j inbox)
 

@@ -1,12 +1,14 @@
 //! What an agent was sent, by sender.
 
-ghost use Rattle.std.specs.Prelude.{◌≡◌, ℕ, map, length, take, ◌++◌, IfOk, OnOk, MatchOption, Some, None, ◌==◌};
-ghost use Rattle.std.specs.List.{position, fold};
+ghost use Rattle.std.specs.Prelude.{◌≡◌, ℕ, true, map, length, take, ◌++◌, IfOk, OnOk, MatchOption, Some, None};
+ghost use Rattle.std.specs.List.{fold};
+ghost use Rattle.std.specs.List.Sorted.{IsStrictlyIncreasing};
 ghost use Rattle.letter_queues.specs.Links.{LinkView, new_link, waiting_from, last_letter};
-ghost use Rattle.letter_queues.specs.Inboxes.{edit_link, with_letter, with_last, take_off, keep_last, letters_by, short_in};
+ghost use Rattle.letter_queues.specs.Inboxes.{senders, edit_link, with_letter, with_last, take_off, keep_last, letters_by, short_in};
 ghost use Rattle.letter_queues.specs.Takes.{inbox_takes};
 
 use crate::link::Link;
+use crate::place::{are_ascending, place_of};
 use dcop_base::{NoMemory, VarId};
 use protocol_steps::{EventFault, Letter, Take};
 use std::alloc::Global;
@@ -16,19 +18,26 @@ use std::marker::Model;
 const MOST_TAKEN: usize = 64;
 
 /// What an agent was sent, with a link for each sender: the letters that wait, in the order in which
-/// they were sent, and the last one that was taken.
+/// they were sent, and the last one that was taken. Where the senders ascend, the time to find the
+/// link of one grows with the logarithm of their number.
 #[derive(Drop)]
 pub struct Inbox {
     links: Vec<Link>,
+    // Whether each sender is known to be greater than the one before.
+    ascending: bool,
 }
 
 impl Model for Inbox {
-    ghost use Rattle.std.specs.Prelude.{List};
+    ghost use Rattle.std.specs.Prelude.{◌≡◌, true, List};
+    ghost use Rattle.std.specs.List.Sorted.{IsStrictlyIncreasing};
     ghost use Rattle.letter_queues.specs.Links.{LinkView};
+    ghost use Rattle.letter_queues.specs.Inboxes.{senders};
 
     ghost Value = { List LinkView };
 
     ghost view = { λ inbox. inbox.links.items };
+
+    ghost invariant = { λ inbox. inbox.ascending ≡ true → IsStrictlyIncreasing (senders inbox.links.items) };
 }
 
 impl Inbox {
@@ -41,14 +50,17 @@ impl Inbox {
         ensures { IfOk result (λ inbox. inbox ≡ map new_link senders.now) }
     {
         let links = new_links(alloc, senders)?;
-        Ok(Inbox { links })
+        Ok(Inbox {
+            links,
+            ascending: are_ascending(senders),
+        })
     }
 
     /// How many letters of this sender wait; 0 if it has no link.
     pub fn count_from(&self, from: VarId) -> usize
         ensures { result ≡ length (waiting_from self.now from) }
     {
-        count_from(self.links.as_slice(), from)
+        count_from(self.links.as_slice(), self.ascending, from)
     }
 
     /// The last letter of this sender: the last one that waits, or else the last one that was taken;
@@ -57,7 +69,7 @@ impl Inbox {
         ensures { MatchOption result (last_letter self.now from ≡ None)
             (λ l. last_letter self.now from ≡ Some l.now) }
     {
-        last_of(self.links.as_slice(), from)
+        last_of(self.links.as_slice(), self.ascending, from)
     }
 
     /// Adds a letter to the link of this sender. If there is no such link, nothing changes.
@@ -68,7 +80,7 @@ impl Inbox {
     pub fn add(&mut self, from: VarId, letter: Letter) -> Result<(), NoMemory>
         ensures { OnOk result (self.new ≡ edit_link from (with_letter letter) self.old) }
     {
-        add(self.links.as_mut_slice(), from, letter)
+        add(self.links.as_mut_slice(), self.ascending, from, letter)
     }
 
     /// The fault of the first take that asks for more messages than wait; `None` if there is no such
@@ -76,7 +88,7 @@ impl Inbox {
     pub fn short_of(&self, takes: &[Take]) -> Option<EventFault>
         ensures { result ≡ short_in self.now takes.now }
     {
-        short_of(self.links.as_slice(), takes)
+        short_of(self.links.as_slice(), self.ascending, takes)
     }
 
     /// Removes the letters of all takes, one take after another, and replaces the content of the
@@ -89,7 +101,7 @@ impl Inbox {
         ensures batch { OnOk result (batch.new.items ≡ letters_by self.old takes.now) }
         ensures rest { OnOk result (self.new ≡ fold take_off self.old takes.now) }
     {
-        gather(self.links.as_mut_slice(), takes, batch)
+        gather(self.links.as_mut_slice(), self.ascending, takes, batch)
     }
 
     /// Keeps, for each sender, the last of these letters that were taken. `letters` is emptied and
@@ -101,7 +113,7 @@ impl Inbox {
     pub fn keep_all(&mut self, letters: &mut Vec<Letter>) -> Result<(), NoMemory>
         ensures { OnOk result (self.new ≡ fold keep_last self.old letters.old.items) }
     {
-        keep_all(self.links.as_mut_slice(), letters)
+        keep_all(self.links.as_mut_slice(), self.ascending, letters)
     }
 
     /// Replaces the content of `takes` by a take of each link on which something waits, of at most
@@ -128,18 +140,12 @@ fn new_links(alloc: Global, senders: &[VarId]) -> Result<Vec<Link>, NoMemory>
     Ok(links)
 }
 
-/// The place of this sender's link, if it has one.
-fn place_of(links: &[Link], from: VarId) -> Option<usize>
-    ensures { result ≡ position (λ l. l.from == from) links.now }
-{
-    links.iter().position(|link| link.from() == from)
-}
-
 /// How many letters of this sender wait; 0 if it has no link.
-fn count_from(links: &[Link], from: VarId) -> usize
+fn count_from(links: &[Link], ascending: bool, from: VarId) -> usize
+    requires { ascending ≡ true → IsStrictlyIncreasing (senders links.now) }
     ensures { result ≡ length (waiting_from links.now from) }
 {
-    match place_of(links, from) {
+    match place_of(links, ascending, from) {
         Some(at) => links[at].count(),
         None => 0,
     }
@@ -147,21 +153,24 @@ fn count_from(links: &[Link], from: VarId) -> usize
 
 /// The last letter of this sender: the last one that waits, or else the last one that was taken;
 /// `None` if there is neither.
-fn last_of(links: &[Link], from: VarId) -> Option<&Letter>
+fn last_of(links: &[Link], ascending: bool, from: VarId) -> Option<&Letter>
+    requires { ascending ≡ true → IsStrictlyIncreasing (senders links.now) }
     ensures { MatchOption result (last_letter links.now from ≡ None)
         (λ l. last_letter links.now from ≡ Some l.now) }
 {
-    match place_of(links, from) {
+    match place_of(links, ascending, from) {
         Some(at) => links[at].last(),
         None => None,
     }
 }
 
 /// Adds a letter to the link of this sender. If there is no such link, nothing changes.
-fn add(links: &mut [Link], from: VarId, letter: Letter) -> Result<(), NoMemory>
-    ensures { OnOk result (links.new ≡ edit_link from (with_letter letter) links.old) }
+fn add(links: &mut [Link], ascending: bool, from: VarId, letter: Letter) -> Result<(), NoMemory>
+    requires { ascending ≡ true → IsStrictlyIncreasing (senders links.old) }
+    ensures added { OnOk result (links.new ≡ edit_link from (with_letter letter) links.old) }
+    ensures senders { senders links.new ≡ senders links.old }
 {
-    match place_of(links, from) {
+    match place_of(links, ascending, from) {
         Some(at) => links[at].add(letter),
         None => Ok(()),
     }
@@ -169,11 +178,12 @@ fn add(links: &mut [Link], from: VarId, letter: Letter) -> Result<(), NoMemory>
 
 /// The fault of the first take that asks for more messages than wait; `None` if there is no such
 /// take.
-fn short_of(links: &[Link], takes: &[Take]) -> Option<EventFault>
+fn short_of(links: &[Link], ascending: bool, takes: &[Take]) -> Option<EventFault>
+    requires { ascending ≡ true → IsStrictlyIncreasing (senders links.now) }
     ensures { result ≡ short_in links.now takes.now }
 {
     for take in takes {
-        let there = count_from(links, take.from) as u64;
+        let there = count_from(links, ascending, take.from) as u64;
         let asked = u64::from(take.count);
         if there < asked {
             return Some(EventFault::TooMany {
@@ -187,11 +197,18 @@ fn short_of(links: &[Link], takes: &[Take]) -> Option<EventFault>
 }
 
 /// Removes the letters of a take from their link, and appends them to the batch.
-fn gather_one(links: &mut [Link], next: Take, batch: &mut Vec<Letter>) -> Result<(), NoMemory>
+fn gather_one(
+    links: &mut [Link],
+    ascending: bool,
+    next: Take,
+    batch: &mut Vec<Letter>,
+) -> Result<(), NoMemory>
+    requires { ascending ≡ true → IsStrictlyIncreasing (senders links.old) }
     ensures batch { OnOk result (batch.new.items ≡ batch.old.items ++ take next.count (waiting_from links.old next.from)) }
     ensures rest { OnOk result (links.new ≡ take_off links.old next) }
+    ensures senders { senders links.new ≡ senders links.old }
 {
-    if let Some(at) = place_of(links, next.from) {
+    if let Some(at) = place_of(links, ascending, next.from) {
         links[at].take_off(next.count, batch)?;
     }
     Ok(())
@@ -199,23 +216,37 @@ fn gather_one(links: &mut [Link], next: Take, batch: &mut Vec<Letter>) -> Result
 
 /// Removes the letters of all takes, one take after another, and replaces the content of the batch
 /// by them.
-fn gather(links: &mut [Link], takes: &[Take], batch: &mut Vec<Letter>) -> Result<(), NoMemory>
+fn gather(
+    links: &mut [Link],
+    ascending: bool,
+    takes: &[Take],
+    batch: &mut Vec<Letter>,
+) -> Result<(), NoMemory>
+    requires { ascending ≡ true → IsStrictlyIncreasing (senders links.old) }
     ensures batch { OnOk result (batch.new.items ≡ letters_by links.old takes.now) }
     ensures rest { OnOk result (links.new ≡ fold take_off links.old takes.now) }
+    ensures senders { senders links.new ≡ senders links.old }
 {
     batch.clear();
     for take in takes {
-        gather_one(links, *take, batch)?;
+        gather_one(links, ascending, *take, batch)?;
     }
     Ok(())
 }
 
 /// Keeps a letter that was taken as the last one of this sender. If there is no link of this
 /// sender, nothing changes.
-fn keep_one(links: &mut [Link], from: VarId, letter: Letter) -> Result<(), NoMemory>
-    ensures { OnOk result (links.new ≡ edit_link from (with_last letter) links.old) }
+fn keep_one(
+    links: &mut [Link],
+    ascending: bool,
+    from: VarId,
+    letter: Letter,
+) -> Result<(), NoMemory>
+    requires { ascending ≡ true → IsStrictlyIncreasing (senders links.old) }
+    ensures kept { OnOk result (links.new ≡ edit_link from (with_last letter) links.old) }
+    ensures senders { senders links.new ≡ senders links.old }
 {
-    match place_of(links, from) {
+    match place_of(links, ascending, from) {
         Some(at) => links[at].keep(letter),
         None => Ok(()),
     }
@@ -230,12 +261,14 @@ fn sender_of(letter: &Letter) -> VarId
 
 /// Keeps, for each sender, the last of these letters that were taken. `letters` is emptied and
 /// keeps its memory.
-fn keep_all(links: &mut [Link], letters: &mut Vec<Letter>) -> Result<(), NoMemory>
-    ensures { OnOk result (links.new ≡ fold keep_last links.old letters.old.items) }
+fn keep_all(links: &mut [Link], ascending: bool, letters: &mut Vec<Letter>) -> Result<(), NoMemory>
+    requires { ascending ≡ true → IsStrictlyIncreasing (senders links.old) }
+    ensures kept { OnOk result (links.new ≡ fold keep_last links.old letters.old.items) }
+    ensures senders { senders links.new ≡ senders links.old }
 {
     for letter in letters.drain(..) {
         let from = sender_of(&letter);
-        keep_one(links, from, letter)?;
+        keep_one(links, ascending, from, letter)?;
     }
     Ok(())
 }

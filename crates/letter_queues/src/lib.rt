@@ -11,6 +11,7 @@ mod form;
 mod inbox;
 mod letters;
 mod link;
+mod place;
 mod queue;
 
 pub use arrivals::Arrivals;

@@ -57,7 +57,8 @@ impl Link {
 
     /// Adds a letter after those that wait.
     pub(crate) fn add(&mut self, letter: Letter) -> Result<(), NoMemory>
-        ensures { OnOk result (self.new ≡ with_letter letter self.old) }
+        ensures added { OnOk result (self.new ≡ with_letter letter self.old) }
+        ensures from { self.new.from ≡ self.old.from }
     {
         let alloc = self.alloc;
         self.letters.add(alloc, letter)
@@ -68,6 +69,7 @@ impl Link {
     pub(crate) fn take_off(&mut self, count: u32, batch: &mut Vec<Letter>) -> Result<(), NoMemory>
         ensures batch { OnOk result (batch.new.items ≡ batch.old.items ++ take count self.old.waiting) }
         ensures rest { OnOk result (self.new ≡ without_next count self.old) }
+        ensures from { self.new.from ≡ self.old.from }
     {
         for _ in 0..count {
             if let Some(letter) = self.letters.pop() {
@@ -79,7 +81,8 @@ impl Link {
 
     /// Keeps a letter as the last one that was taken.
     pub(crate) fn keep(&mut self, letter: Letter) -> Result<(), NoMemory>
-        ensures { OnOk result (self.new ≡ with_last letter self.old) }
+        ensures kept { OnOk result (self.new ≡ with_last letter self.old) }
+        ensures from { self.new.from ≡ self.old.from }
     {
         let alloc = self.alloc;
         self.letters.keep(alloc, letter)
