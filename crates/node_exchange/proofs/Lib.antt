@@ -5,4 +5,5 @@ pub mod ReceiveLaws
 pub mod ComeLaws
 pub mod CarryLaws
 mod BusyLaws
+pub mod TurnLaws
 mod PassLaws

@@ -2,7 +2,6 @@
 use Rattle.std.proofs.Common.{◌≡◌, ℕ, ◌+◌, ◌<◌, List, [], ◌∷◌, ◌++◌, length, get_or, Result, Ok, Err, sym, subst, ◌∙◌, arith}
 use Rattle.std.specs.Prelude.{OnOk, IfErr, IsErrAnd}
 use Rattle.std.specs.List.{All, remove}
-use Rattle.std.proofs.lemmas.List.{length-append}
 use Rattle.std.proofs.lemmas.List.Elements.{All-nil, All-tail, All-push}
 use Rattle.wire_pump.specs.Wire.{Told}
 use Rattle.wire_pump.specs.Pump.{HaveAll}
@@ -21,10 +20,6 @@ use Rattle.node_exchange.specs.Faults.{AreTwo, IsByteFault, HasPassCause}
 all_but_first : {A : Type 0} (P : A → Type 0) (xs : List A) → All P xs → All P (remove xs 0)
 all_but_first P [] h = All-nil P
 all_but_first P (x ∷ xs) h = All-tail P x xs h
-
-pub turned_long : {A : Type 0} (xs : List A) (x : A) → 0 < length xs → length (remove xs 0 ++ x ∷ []) ≡ length xs
-turned_long [] x lt = absurd (omega (arith, lt))
-turned_long (y ∷ xs) x lt = let long = length-append xs (x ∷ []) in omega (arith, long)
 
 module _ {W : Type 0} (told : W → Told) (is_joined : W → W → Type 0) where
   pub first_joined : (pairs : List (W × W)) (d : W × W) → AreHonest told is_joined pairs → 0 < length pairs → d ≡ get_or pairs 0 d → is_joined d.0 d.1

@@ -7,3 +7,4 @@ pub mod Faults
 pub mod Carried
 pub mod Honest
 pub mod Busy
+pub mod Turned

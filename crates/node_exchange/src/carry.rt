@@ -5,6 +5,7 @@ ghost use Rattle.dcop_edge.specs.Faults.{Rose};
 ghost use Rattle.wire_pump.specs.Dialer.{HasDialCause};
 ghost use Rattle.wire_pump.specs.Pump.{HaveAll};
 ghost use Rattle.node_exchange.specs.Carried.{IsCarried, HaveAnyFault};
+ghost use Rattle.node_exchange.specs.Turned.{IsPairLater};
 
 use dcop_base::Bytes;
 use std::alloc::{AllocGlobal, Global};
@@ -16,7 +17,7 @@ use std::time::Clock;
 use wire_pump::{DialFault, Dialer, PumpFail, Pumped, pump_by};
 
 /// Sends one list of bytes in each direction over the two wires between two nodes. If both lists
-/// are empty, the wires are not used. A wire that failed is charged to the dialer.
+/// are empty, the wires are not used. A wire that failed is charged to the dialer, and both are gone.
 pub(crate) fn carry<R, D>(
     rt: &R,
     alloc: Global,
@@ -30,6 +31,7 @@ where
     D: Dialer,
     ensures cause { HasDialCause (D.faults dialer.old) (D.faults dialer.new) result }
     ensures dialer { D.is_honest dialer.old → D.is_honest dialer.new }
+    ensures later { IfOk result (λ p. IsPairLater D.W.told D.W.is_joined ends (p.first, p.second)) }
     ensures honest { D.W.is_joined ends.0 ends.1 → HaveAll (D.W.told ends.0) (D.W.told ends.1)
         → IfOk result (IsCarried D.W.told D.W.is_joined there back) }
 {

@@ -7,6 +7,7 @@ ghost use Rattle.node_exchange.specs.Passings.{SamePassing, HasReceived, AreAcro
 ghost use Rattle.node_exchange.specs.Letters.{IsLetter};
 ghost use Rattle.node_exchange.specs.Busy.{IsBusyPart};
 ghost use Rattle.node_exchange.specs.Honest.{AreHonest};
+ghost use Rattle.node_exchange.specs.Turned.{AreTurned, lost_by};
 ghost use Rattle.node_exchange.specs.Faults.{HasPassCause, AreTwo, IsByteFault, IsNoDifference, IsNoFailure};
 
 use crate::busy::{busy_part, write_part};
@@ -36,7 +37,9 @@ use wire_pump::Dialer;
 ///   nothing has arrived on the links.
 /// - [`PassFault::NoMemory`] if memory runs out.
 ///
-/// After a fault the two wires of one pair may be gone, and letters may have been added.
+/// In any case the wires that were used are at the end of the list, in their order. After
+/// [`PassFault::Failed`] or [`PassFault::NoMemory`] one pair may be gone, which was the next in turn.
+/// After a fault letters may have been added.
 pub fn pass_all<R, D>(
     rt: &R,
     alloc: Global,
@@ -51,7 +54,7 @@ where
     requires across { AreAcross nodes passings.old }
     requires wires { 1 < nodes → 0 < length wires.old.items }
     ensures same { EachAre SamePassing passings.old passings.new }
-    ensures wires { OnOk result (length wires.new.items ≡ length wires.old.items) }
+    ensures wires { AreTurned D.W.told D.W.is_joined (lost_by result) wires.old.items wires.new.items }
     ensures cause { HasPassCause (D.faults dialer.old) (D.faults dialer.new) result }
     ensures dialer { D.is_honest dialer.old → D.is_honest dialer.new }
     ensures differs { IfErr result (IsByteFault nodes passings.old) }
@@ -85,7 +88,7 @@ where
     requires across { AreAcross nodes passings.old }
     requires wires { 1 < nodes → 0 < length wires.old.items }
     ensures same { EachAre SamePassing passings.old passings.new }
-    ensures wires { OnOk result (length wires.new.items ≡ length wires.old.items) }
+    ensures wires { AreTurned D.W.told D.W.is_joined (lost_by result) wires.old.items wires.new.items }
     ensures cause { HasPassCause (D.faults dialer.old) (D.faults dialer.new) result }
     ensures dialer { D.is_honest dialer.old → D.is_honest dialer.new }
     ensures differs { IfErr result (IsByteFault nodes passings.old) }
@@ -98,7 +101,8 @@ where
     Ok(())
 }
 
-/// [`pass_all`], for one pair of nodes. Its wires are the first of the list, and go to its end.
+/// [`pass_all`], for one pair of nodes. Its wires are the first of the list, and go to its end as
+/// soon as they were used; if the dialer, a wire or memory fails before, they may be gone.
 fn pass_pair<R, D>(
     rt: &R,
     alloc: Global,
@@ -117,7 +121,7 @@ where
     requires across { (nodes : ℕ) × AreAcross nodes passings.old }
     requires wires { 0 < length wires.old.items }
     ensures same { EachAre SamePassing passings.old passings.new }
-    ensures wires { OnOk result (length wires.new.items ≡ length wires.old.items) }
+    ensures wires { AreTurned D.W.told D.W.is_joined (lost_by result) wires.old.items wires.new.items }
     ensures cause { HasPassCause (D.faults dialer.old) (D.faults dialer.new) result }
     ensures dialer { D.is_honest dialer.old → D.is_honest dialer.new }
     ensures differs { (nodes : ℕ) → AreTwo nodes first second → IfErr result (IsByteFault nodes passings.old) }
@@ -128,9 +132,9 @@ where
     let back = write_part(alloc, passings, busy, second, first)?;
     let ends = wires.remove(0);
     let came = carry(rt, alloc, dialer, ends, there, back)?;
+    wires.push((came.first, came.second))?;
     take_in(alloc, passings, first, second, came.at_second.as_slice())?;
     take_in(alloc, passings, second, first, came.at_first.as_slice())?;
-    wires.push((came.first, came.second))?;
     Ok(())
 }
 

@@ -6,12 +6,13 @@ use Rattle.node_exchange.proofs.ReceiveLaws.{still_across}
 use Rattle.node_exchange.proofs.ComeLaws.{none_come, all_come}
 use Rattle.node_exchange.proofs.BusyLaws.{still_busy}
 use Rattle.node_exchange.proofs.PassLaws.{err_on, nothing_on, fault_still, cause_on}
+use Rattle.node_exchange.proofs.TurnLaws.{turned_none, turned_then, turned_long, turned_on}
 use Rattle.node_exchange.proofs.pass.pass_all.Goals as goal
 
 pub loop-first-init : goal.loop-first-init
 loop-first-init g c = record {
   same = all_same c.args.passings.now;
-  wires = refl;
+  wires = turned_none g.D.W.Wire.told g.D.W.Wire.is_joined 0 c.args.wires.now.items;
   faults = refl;
   dialer = λ d. d;
   wires_honest = λ h none. h;
@@ -25,10 +26,14 @@ pub pass_from-requires-clause-across : goal.pass_from-requires-clause-across
 pass_from-requires-clause-across g c κs within = still_across c.args.nodes c.args.passings.now c.loop-first.passings c.loop-first.invariant.same c.requires.across
 
 pub pass_from-requires-clause-wires : goal.pass_from-requires-clause-wires
-pass_from-requires-clause-wires g c κs within = λ many. subst (λ n. 0 < n) (sym c.loop-first.invariant.wires) (c.requires.wires many)
+pass_from-requires-clause-wires g c κs within = λ many. subst (λ n. 0 < n) (sym (turned_long g.D.W.Wire.told g.D.W.Wire.is_joined c.args.wires.now.items c.loop-first.wires.items c.loop-first.invariant.wires)) (c.requires.wires many)
 
 pub returns-in_err-pass_from-clause-same : goal.returns-in_err-pass_from-clause-same
 returns-in_err-pass_from-clause-same g c = all_same_then c.args.passings.now c.loop-first.passings c.pass_from.new.passings c.loop-first.invariant.same c.pass_from.ensures.same
+
+pub returns-in_err-pass_from-clause-wires : goal.returns-in_err-pass_from-clause-wires
+returns-in_err-pass_from-clause-wires g c =
+    turned_on g.D.W.Wire.told g.D.W.Wire.is_joined c.from_residual.result _ c.args.wires.now.items c.pass_from.new.wires.items c.from_residual.ensures.1 (turned_then g.D.W.Wire.told g.D.W.Wire.is_joined _ c.args.wires.now.items c.loop-first.wires.items c.pass_from.new.wires.items c.loop-first.invariant.wires c.in_err-pass_from.ensures.wires)
 
 pub returns-in_err-pass_from-clause-cause : goal.returns-in_err-pass_from-clause-cause
 returns-in_err-pass_from-clause-cause g c = cause_on _ _ _ c.from_residual.result _ c.loop-first.invariant.faults c.from_residual.ensures.1 c.in_err-pass_from.ensures.cause
@@ -51,7 +56,7 @@ loop-first-preserved g c =
     let next : c.loop-first.first + 1 + 1 ≡ c.loop-first.first + 2 = omega arith in
     record {
       same = all_same_then c.args.passings.now c.loop-first.passings c.pass_from.new.passings i.same c.pass_from.ensures.same;
-      wires = c.in_ok-pass_from.ensures.wires ∙ i.wires;
+      wires = turned_then g.D.W.Wire.told g.D.W.Wire.is_joined 0 c.args.wires.now.items c.loop-first.wires.items c.pass_from.new.wires.items i.wires c.in_ok-pass_from.ensures.wires;
       faults = c.in_ok-pass_from.ensures.cause ∙ i.faults;
       dialer = λ d. c.pass_from.ensures.dialer (i.dialer d);
       wires_honest = λ h none. (c.in_ok-pass_from.ensures.honest (i.wires_honest h none) (i.come h none)).0.0;

@@ -5,13 +5,14 @@ use Rattle.node_exchange.proofs.ReceiveLaws.{still_across}
 use Rattle.node_exchange.proofs.ComeLaws.{next_row}
 use Rattle.node_exchange.proofs.BusyLaws.{still_busy}
 use Rattle.node_exchange.proofs.PassLaws.{err_on, nothing_on, fault_still, two_in_order, cause_on}
+use Rattle.node_exchange.proofs.TurnLaws.{turned_none, turned_then, turned_long, turned_on}
 use Rattle.node_exchange.proofs.pass.pass_from.Goals as goal
 
 pub loop-second-init : goal.loop-second-init
 loop-second-init g c = record {
   after = omega arith;
   same = all_same c.args.passings.now;
-  wires = refl;
+  wires = turned_none g.D.W.Wire.told g.D.W.Wire.is_joined 0 c.args.wires.now.items;
   faults = refl;
   dialer = λ d. d;
   wires_honest = λ h come. h;
@@ -30,11 +31,15 @@ pass_pair-requires-clause-wires g c =
     let after = i.after in
     let test = c.loop-second-test.true in
     let lt : 0 < length c.args.wires.now.items = c.requires.wires (omega (arith, after, test)) in
-    let long = i.wires in
+    let long = turned_long g.D.W.Wire.told g.D.W.Wire.is_joined c.args.wires.now.items c.loop-second.wires.items i.wires in
     omega (arith, lt, long)
 
 pub returns-in_err-pass_pair-clause-same : goal.returns-in_err-pass_pair-clause-same
 returns-in_err-pass_pair-clause-same g c = all_same_then c.args.passings.now c.loop-second.passings c.pass_pair.new.passings c.loop-second.invariant.same c.pass_pair.ensures.same
+
+pub returns-in_err-pass_pair-clause-wires : goal.returns-in_err-pass_pair-clause-wires
+returns-in_err-pass_pair-clause-wires g c =
+    turned_on g.D.W.Wire.told g.D.W.Wire.is_joined c.from_residual.result _ c.args.wires.now.items c.pass_pair.new.wires.items c.from_residual.ensures.1 (turned_then g.D.W.Wire.told g.D.W.Wire.is_joined _ c.args.wires.now.items c.loop-second.wires.items c.pass_pair.new.wires.items c.loop-second.invariant.wires c.in_err-pass_pair.ensures.wires)
 
 pub returns-in_err-pass_pair-clause-cause : goal.returns-in_err-pass_pair-clause-cause
 returns-in_err-pass_pair-clause-cause g c = cause_on _ _ _ c.from_residual.result _ c.loop-second.invariant.faults c.from_residual.ensures.1 c.in_err-pass_pair.ensures.cause
@@ -61,7 +66,7 @@ loop-second-preserved g c =
     record {
       after = omega (arith, after);
       same = all_same_then c.args.passings.now c.loop-second.passings c.pass_pair.new.passings i.same c.pass_pair.ensures.same;
-      wires = c.in_ok-pass_pair.ensures.wires ∙ i.wires;
+      wires = turned_then g.D.W.Wire.told g.D.W.Wire.is_joined 0 c.args.wires.now.items c.loop-second.wires.items c.pass_pair.new.wires.items i.wires c.in_ok-pass_pair.ensures.wires;
       faults = c.in_ok-pass_pair.ensures.cause ∙ i.faults;
       dialer = λ d. c.pass_pair.ensures.dialer (i.dialer d);
       wires_honest = λ h come. (c.in_ok-pass_pair.ensures.honest (i.wires_honest h come) (i.come h come)).0.0;

@@ -1,0 +1,32 @@
+-- Wires that are used in turn.
+use Rattle.std.specs.Prelude.{◌≡◌, ℕ, ◌≤◌, List, ◌++◌, length, Result, Ok, Err}
+use Rattle.wire_pump.specs.Wire.{Told}
+use Rattle.wire_pump.specs.Ends.{CountsLater}
+use Rattle.worker_laws.specs.Cells.{EachAre}
+use Rattle.node_exchange.specs.declared.fault.PassFault.{PassFault}
+use Rattle.node_exchange.specs.declared.fault.PassFault.TheVariants.{Failed, Bytes, NoMemory}
+
+module _ {W : Type 0} (told : W → Told) (is_joined : W → W → Type 0) where
+  -- the same pair of wires later: their faults are as they were, their counts of waits did not
+  -- fall, and wires that were joined still are
+  pub record IsPairLater (before after : W × W) : Type 0 where
+    pub first : CountsLater (told before.0) (told after.0)
+    pub second : CountsLater (told before.1) (told after.1)
+    pub joined : is_joined before.0 before.1 → is_joined after.0 after.1
+
+  -- pairs were taken from the front of the list one by one; each that was used stands at its end, in
+  -- the same order, and at most this many, which were taken last, are gone
+  pub record AreTurned (most : ℕ) (before after : List (W × W)) : Type 0 where
+    pub taken : List (W × W)
+    pub used : List (W × W)
+    pub later : EachAre IsPairLater taken used
+    pub gone : List (W × W)
+    pub few : length gone ≤ most
+    pub turned : before ++ used ≡ (taken ++ gone) ++ after
+
+-- how many pairs of wires an exchange with this result may have lost
+abbrev pub lost_by : {T : Type 0} → Result T PassFault → ℕ
+lost_by (Ok value) = 0
+lost_by (Err Failed) = 1
+lost_by (Err (Bytes from_node to_node place sent taken)) = 0
+lost_by (Err NoMemory) = 1
