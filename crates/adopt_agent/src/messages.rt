@@ -15,9 +15,10 @@ ghost use Rattle.adopt_agent.specs.Deed.{IsSameAgent};
 
 use crate::agent::AdoptAgent;
 use crate::choose::best_of;
-use crate::range::{fit, is_in_range, is_parent};
+use crate::order::place_in;
+use crate::range::{fit, is_near_above, is_parent};
 use adopt_context::AgentContext;
-use dcop_base::{NoMemory, Val, VarId, position_of, stands_in};
+use dcop_base::{NoMemory, Val, VarId, stands_in};
 use protocol_steps::{Letter, Message};
 
 /// What is known, extended by the pairs of a COST's context whose variables are not neighbours or
@@ -69,9 +70,7 @@ impl AdoptAgent {
     fn takes_value(&self, from: VarId, value: Val) -> bool
         ensures { result ≡ takes_value self.now from value }
     {
-        !self.told_to_end
-            && stands_in(self.own.neighbours.as_slice(), from)
-            && is_in_range(&self.place, from, value)
+        !self.told_to_end && is_near_above(&self.own, &self.place, from, value)
     }
 
     /// Learns the value of a higher neighbour, if VALUE is taken.
@@ -217,7 +216,7 @@ impl AdoptAgent {
         ensures taken { OnOk result
             (self.new ≡ adopt_message self.old from (Cost context.now lower upper)) }
     {
-        if position_of(self.place.children.as_slice(), from).is_none() {
+        if place_in(self.place.children.as_slice(), from).is_none() {
             return Ok(());
         }
         let Some(d) = context.get(self.own.me) else {

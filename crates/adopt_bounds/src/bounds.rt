@@ -4,7 +4,7 @@ ghost use Rattle.std.specs.Prelude.{◌≡◌, ◌+◌, ◌*◌, ◌<◌, ◌≤
 ghost use Rattle.dcop_base.specs.Limits.{amount_limit, variable_limit};
 ghost use Rattle.dcop_base.specs.Table.{has};
 ghost use Rattle.adopt_context.specs.Allot.{reset, allot};
-ghost use Rattle.adopt_context.specs.Bounds.{blank, capped, lower_at, row_at, upper_at, upper_sum};
+ghost use Rattle.adopt_context.specs.Bounds.{blank, capped, entry_at, lower_at, row_at, upper_at, upper_sum};
 ghost use Rattle.adopt_context.specs.Context.{compatible};
 ghost use Rattle.adopt_context.specs.Merge.{may_merge};
 ghost use Rattle.adopt_bounds.specs.Rows.{entry_of, place_of, with_merged};
@@ -111,14 +111,16 @@ impl Bounds {
         self.ub_of(Some(0), d)
     }
 
-    /// The share of the threshold that is allotted to a child for an own value.
-    pub fn threshold_of(&self, d: Val, child: VarId) -> u64
+    /// The share of the threshold that is allotted for an own value to the child at this place among
+    /// the children.
+    pub fn share_at(&self, d: Val, place: usize) -> u64
         requires value { d < length self.now.rows }
-        requires child { has self.now.children child ≡ true }
-        ensures share { result ≡ (entry_of self.now d child).share }
+        requires place { place < length self.now.children }
+        ensures share { result ≡ (entry_at self.now.rows d place).share }
         ensures within { result ≤ amount_limit }
     {
-        self.share[index_of(self.children.as_slice(), d, child)]
+        let width = self.children.as_slice().len();
+        self.share[usize::from(d.0) * width + place]
     }
 
     /// Resets the entries whose context is not part of what is known: their bounds become 0 and
