@@ -1,11 +1,11 @@
-use Rattle.std.proofs.Common.{◌≡◌, ℕ, ◌==◌, List, Some, sym, ap, subst, ◌∙◌}
+use Rattle.std.proofs.Common.{ℕ, ◌==◌, List, sym, ap, subst, ◌∙◌}
 use Rattle.std.specs.List.{position}
 use Rattle.std.specs.List.Sorted.{IsStrictlyIncreasing}
 use Rattle.protocol_steps.specs.Adopt.{AdoptView}
 use Rattle.adopt_agent.proofs.agent.AdoptAgent.tell_child.Goals as goal
 
 pub place_in-requires : goal.place_in-requires
-place_in-requires c = subst IsStrictlyIncreasing (sym c.as_slice.ensures) c.self.invariant.ground.placed.children.0
+place_in-requires c = record { ascend = subst IsStrictlyIncreasing (sym c.as_slice.ensures) c.self.invariant.ground.placed.children.0 }
 
 pub threshold_for-requires : goal.threshold_for-requires
 threshold_for-requires c =
