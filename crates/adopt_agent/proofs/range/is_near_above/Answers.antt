@@ -1,4 +1,4 @@
-use Rattle.std.proofs.Common.{ℕ, ◌==◌, nat_lt, false, true, List, get_or, is_some, sym, ap, ◌∙◌}
+use Rattle.std.proofs.Common.{ℕ, ◌==◌, nat_lt, List, get_or, is_some, sym, ap, ◌∙◌}
 use Rattle.std.specs.List.{position, zip}
 use Rattle.dcop_base.specs.Table.{has}
 use Rattle.adopt_context.specs.Context.{value_in}
