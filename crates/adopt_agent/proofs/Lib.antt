@@ -5,6 +5,8 @@ pub mod KeptLaws
 pub mod DifferLaws
 pub mod GrowLaws
 pub mod ExchangeLaws
+pub mod OrderLaws
+pub mod NearLaws
 pub mod LowestLaws
 pub mod BoundLaws
 pub mod StoreLaws

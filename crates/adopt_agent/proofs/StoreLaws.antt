@@ -1,5 +1,5 @@
 -- What is stored of the bounds that a child sends.
-use Rattle.std.proofs.Common.{◌≡◌, ℕ, ◌&&◌, Bool, true, false, List, [], ◌∷◌, set, Option, Some, None, refl, sym, ap, ap₂, subst, ◌∙◌}
+use Rattle.std.proofs.Common.{◌≡◌, ℕ, ◌&&◌, Bool, true, false, [], ◌∷◌, set, Option, Some, None, refl, sym, ap, ap₂, subst, ◌∙◌}
 use Rattle.std.proofs.lemmas.Bool.{cond-true, cond-false, and_parts, and_from, eq-eqb}
 use Rattle.std.proofs.lemmas.Option.{same_Some}
 use Rattle.std.proofs.lemmas.List.{length-set}
@@ -10,7 +10,7 @@ use Rattle.adopt_context.specs.Bounds.{Entry, row_at, entry_at}
 use Rattle.adopt_context.specs.Merge.{may_merge, merged}
 use Rattle.adopt_context.proofs.KnownLaws.{value_is, part_gives, union_part}
 use Rattle.adopt_context.proofs.RowLaws.{entry_each}
-use Rattle.adopt_bounds.specs.Rows.{BoundsView, place_of, entry_of, with_merged}
+use Rattle.adopt_bounds.specs.Rows.{BoundsView, merged_at}
 use Rattle.protocol_steps.specs.Adopt.{AdoptView}
 use Rattle.protocol_steps.specs.AdoptBounds.{restore}
 use Rattle.protocol_steps.specs.AdoptCost.{with_entry, may_store, stored}
@@ -30,10 +30,9 @@ parts_agree (p ∷ ps) r x one other =
     may (Some b) e there = eq-eqb b p.1 (same_Some b p.1 (sym (part_gives r x other p.0 b e) ∙ there))
 
 -- bounds with what a child sends merged in
-pub backed_merged : (own : Private) (place : Place) (known : Context) (bounds after : BoundsView) (d j : ℕ) (r : Context) (l : ℕ) (u : Option ℕ) → AreBacked own place known bounds → part_of r known ≡ true → after ≡ with_merged bounds d j r l u → AreBacked own place known after
-backed_merged own place known bounds after d j r l u backed part is =
-    let k : ℕ = place_of bounds.children j in
-    let e : Entry = entry_of bounds d j in
+pub backed_merged : (own : Private) (place : Place) (known : Context) (bounds after : BoundsView) (d k : ℕ) (r : Context) (l : ℕ) (u : Option ℕ) → AreBacked own place known bounds → part_of r known ≡ true → after ≡ merged_at bounds d k r l u → AreBacked own place known after
+backed_merged own place known bounds after d k r l u backed part is =
+    let e : Entry = entry_at bounds.rows d k in
     subst (λ (b : BoundsView). AreBacked own place known b) (sym is) (record {
       children = backed.children;
       counted = length-set bounds.rows d (set (row_at bounds.rows d) k (merged e r l u)) ∙ backed.counted;
@@ -41,28 +40,24 @@ backed_merged own place known bounds after d j r l u backed part is =
     })
 
 -- what storing gives
-pub stored_shown : (own : Private) (place : Place) (error : ℕ) (stage : Stage) (known : Context) (value threshold last : ℕ) (told : Bool) (bounds after : BoundsView) (v : AdoptView) (d j : ℕ) (r : Context) (l : ℕ) (u : Option ℕ)
-    → view_at own place error stage known value threshold last told bounds.rows ≡ v → bounds.children ≡ place.children → part_of r known ≡ true → may_merge (entry_of bounds d j) l u ≡ true
-    → after ≡ with_merged bounds d j r l u
-    → restore (view_at own place error stage known value threshold last told after.rows) ≡ stored v d (place_of v.place.children j) r l u
-stored_shown own place error stage known value threshold last told bounds after v d j r l u view children part may is =
+pub stored_shown : (own : Private) (place : Place) (error : ℕ) (stage : Stage) (known : Context) (value threshold last : ℕ) (told : Bool) (bounds after : BoundsView) (v : AdoptView) (d k : ℕ) (r : Context) (l : ℕ) (u : Option ℕ)
+    → view_at own place error stage known value threshold last told bounds.rows ≡ v → part_of r known ≡ true → may_merge (entry_at bounds.rows d k) l u ≡ true
+    → after ≡ merged_at bounds d k r l u
+    → restore (view_at own place error stage known value threshold last told after.rows) ≡ stored v d k r l u
+stored_shown own place error stage known value threshold last told bounds after v d k r l u view part may is =
     let w : AdoptView = view_at own place error stage known value threshold last told bounds.rows in
-    let k : ℕ = place_of bounds.children j in
     let e : Entry = entry_at bounds.rows d k in
     ap (λ (b : BoundsView). restore (view_at own place error stage known value threshold last told b.rows)) is
     ∙ sym (cond-true (may_store w d k r l u) (restore (with_entry w d k (merged e r l u))) w (and_from (part_of r known) (may_merge e l u) part may))
-    ∙ ap (λ (cs : List ℕ). stored w d (place_of cs j) r l u) children
-    ∙ ap (λ (x : AdoptView). stored x d (place_of x.place.children j) r l u) view
+    ∙ ap (λ (x : AdoptView). stored x d k r l u) view
 
 -- bounds that cross are not stored
-pub not_stored : (own : Private) (place : Place) (error : ℕ) (stage : Stage) (known : Context) (value threshold last : ℕ) (told : Bool) (bounds after : BoundsView) (v : AdoptView) (d j : ℕ) (r : Context) (l : ℕ) (u : Option ℕ)
-    → view_at own place error stage known value threshold last told bounds.rows ≡ v → bounds.children ≡ place.children → part_of r known ≡ true → may_merge (entry_of bounds d j) l u ≡ false
-    → after ≡ bounds → view_at own place error stage known value threshold last told after.rows ≡ stored v d (place_of v.place.children j) r l u
-not_stored own place error stage known value threshold last told bounds after v d j r l u view children part may is =
+pub not_stored : (own : Private) (place : Place) (error : ℕ) (stage : Stage) (known : Context) (value threshold last : ℕ) (told : Bool) (bounds after : BoundsView) (v : AdoptView) (d k : ℕ) (r : Context) (l : ℕ) (u : Option ℕ)
+    → view_at own place error stage known value threshold last told bounds.rows ≡ v → part_of r known ≡ true → may_merge (entry_at bounds.rows d k) l u ≡ false
+    → after ≡ bounds → view_at own place error stage known value threshold last told after.rows ≡ stored v d k r l u
+not_stored own place error stage known value threshold last told bounds after v d k r l u view part may is =
     let w : AdoptView = view_at own place error stage known value threshold last told bounds.rows in
-    let k : ℕ = place_of bounds.children j in
     let e : Entry = entry_at bounds.rows d k in
     ap (λ (b : BoundsView). view_at own place error stage known value threshold last told b.rows) is
     ∙ sym (cond-false (may_store w d k r l u) (restore (with_entry w d k (merged e r l u))) w (ap₂ (λ (a : Bool) (b : Bool). a && b) part may))
-    ∙ ap (λ (cs : List ℕ). stored w d (place_of cs j) r l u) children
-    ∙ ap (λ (x : AdoptView). stored x d (place_of x.place.children j) r l u) view
+    ∙ ap (λ (x : AdoptView). stored x d k r l u) view

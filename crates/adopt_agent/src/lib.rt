@@ -13,6 +13,7 @@ mod choose;
 mod costs;
 mod exchange;
 mod messages;
+mod order;
 mod range;
 mod send;
 mod stage;

@@ -1,10 +1,10 @@
 //! How an agent handles one message.
 
-ghost use Rattle.std.specs.Prelude.{◌≡◌, ◌<◌, ◌≤◌, ◌==◌, ◌||◌, ◌&&◌, not, nat_lt, true, is_some, IfOk, OnOk, if◌then◌else◌};
-ghost use Rattle.std.specs.List.{fold, position};
+ghost use Rattle.std.specs.Prelude.{◌≡◌, ◌<◌, ◌≤◌, ◌==◌, ◌||◌, ◌&&◌, not, nat_lt, true, length, is_some, IfOk, OnOk, if◌then◌else◌};
+ghost use Rattle.std.specs.List.{fold};
 ghost use Rattle.dcop_base.specs.Limits.{amount_limit};
 ghost use Rattle.dcop_base.specs.Table.{has};
-ghost use Rattle.adopt_context.specs.Context.{AscendsFrom, Context, or_zero, part_of, put, value_in};
+ghost use Rattle.adopt_context.specs.Context.{AscendsFrom, Context, part_of, put, value_in};
 ghost use Rattle.protocol_steps.specs.declared.message.Message.TheVariants.{Value, Cost, Threshold, Terminate};
 ghost use Rattle.protocol_steps.specs.Ranges.{IsBound};
 ghost use Rattle.protocol_steps.specs.AdoptBounds.{at_context, restore};
@@ -15,9 +15,10 @@ ghost use Rattle.adopt_agent.specs.Deed.{IsSameAgent};
 
 use crate::agent::AdoptAgent;
 use crate::choose::best_of;
-use crate::range::{fit, is_in_range, is_parent};
+use crate::order::place_in;
+use crate::range::{fit, is_near_above, is_parent};
 use adopt_context::AgentContext;
-use dcop_base::{NoMemory, Val, VarId, position_of, stands_in};
+use dcop_base::{NoMemory, Val, VarId, stands_in};
 use protocol_steps::{Letter, Message};
 
 /// What is known, extended by the pairs of a COST's context whose variables are not neighbours or
@@ -69,9 +70,7 @@ impl AdoptAgent {
     fn takes_value(&self, from: VarId, value: Val) -> bool
         ensures { result ≡ takes_value self.now from value }
     {
-        !self.told_to_end
-            && stands_in(self.own.neighbours.as_slice(), from)
-            && is_in_range(&self.place, from, value)
+        !self.told_to_end && is_near_above(&self.own, &self.place, from, value)
     }
 
     /// Learns the value of a higher neighbour, if VALUE is taken.
@@ -167,28 +166,27 @@ impl AdoptAgent {
         values.part_of(&self.known)
     }
 
-    /// Stores the bounds of a child, if their context is part of what is known and they do not
-    /// cross the stored ones.
+    /// Stores the bounds of the child at this place, if their context is part of what is known and
+    /// they do not cross the stored ones.
     fn store(
         &mut self,
         d: Val,
-        child: VarId,
+        place: usize,
         rest: &AgentContext,
         lower: u64,
         upper: Option<u64>,
     ) -> Result<(), NoMemory>
         requires value { d < self.old.own.size }
-        requires child { has self.old.place.children child ≡ true }
+        requires place { place < length self.old.place.children }
         requires lower { lower ≤ amount_limit }
         requires upper { IsBound upper }
         ensures same { IsSameAgent self.old self.new }
-        ensures stored { OnOk result (self.new ≡ stored self.old d
-            (or_zero (position (λ c. c == child) self.old.place.children)) rest.now lower upper) }
+        ensures stored { OnOk result (self.new ≡ stored self.old d place rest.now lower upper) }
     {
         if !self.knows(rest) {
             return Ok(());
         }
-        if self.bounds.store(d, child, rest, lower, upper)? {
+        if self.bounds.store_at(d, place, rest, lower, upper)? {
             self.best = best_of(self.costs.as_slice(), self.knows_higher, &self.bounds);
             self.restore();
         }
@@ -217,9 +215,9 @@ impl AdoptAgent {
         ensures taken { OnOk result
             (self.new ≡ adopt_message self.old from (Cost context.now lower upper)) }
     {
-        if position_of(self.place.children.as_slice(), from).is_none() {
+        let Some(place) = place_in(self.place.children.as_slice(), from) else {
             return Ok(());
-        }
+        };
         let Some(d) = context.get(self.own.me) else {
             return Ok(());
         };
@@ -228,7 +226,7 @@ impl AdoptAgent {
             return Ok(());
         }
         self.learn(&rest)?;
-        self.store(d, from, &rest, lower, upper)
+        self.store(d, place, &rest, lower, upper)
     }
 
     /// Handles one message. A message that is not taken is ignored.

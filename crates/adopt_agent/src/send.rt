@@ -1,8 +1,7 @@
 //! The messages of an agent to its neighbours at the end of an activation.
 
-ghost use Rattle.std.specs.Prelude.{◌≡◌, ◌++◌, [], true, IfOk, OnOk};
-ghost use Rattle.std.specs.List.{flat_map};
-ghost use Rattle.dcop_base.specs.Table.{has};
+ghost use Rattle.std.specs.Prelude.{◌≡◌, ◌++◌, ◌==◌, [], Some, IfOk, OnOk};
+ghost use Rattle.std.specs.List.{flat_map, position};
 ghost use Rattle.adopt_context.specs.Context.{put};
 ghost use Rattle.protocol_steps.specs.declared.message.Message.TheVariants.{Cost, Terminate, Threshold};
 ghost use Rattle.protocol_steps.specs.AdoptBounds.{lower_bound, upper_bound};
@@ -10,9 +9,10 @@ ghost use Rattle.protocol_steps.specs.AdoptStep.{adopt_sends, messages_for, shar
 ghost use Rattle.adopt_agent.specs.Deed.{all_to, to_child, to_lower, to_parent};
 
 use crate::agent::AdoptAgent;
+use crate::order::{is_among, place_in};
 use crate::range::is_parent;
 use crate::stage::Stage;
-use dcop_base::{NoMemory, VarId, stands_in};
+use dcop_base::{NoMemory, VarId};
 use protocol_steps::{Message, Parcel};
 
 impl AdoptAgent {
@@ -21,20 +21,20 @@ impl AdoptAgent {
         ensures { OnOk result
             (parcels.new.items ≡ parcels.old.items ++ all_to to (to_lower self.now to)) }
     {
-        if stands_in(self.place.lower.as_slice(), to) {
+        if is_among(self.place.lower.as_slice(), to) {
             let message = Message::Value { value: self.value };
             parcels.push(Parcel { to, message })?;
         }
         Ok(())
     }
 
-    /// THRESHOLD for a child, with its share of the threshold.
-    fn threshold_for(&self, to: VarId) -> Result<Parcel, NoMemory>
-        requires { has self.now.place.children to ≡ true }
+    /// THRESHOLD for the child at this place, with its share of the threshold.
+    fn threshold_for(&self, to: VarId, place: usize) -> Result<Parcel, NoMemory>
+        requires { position (λ child. child == to) self.now.place.children ≡ Some place }
         ensures { IfOk result (λ parcel. parcel ≡ (to, Threshold (share_of self.now to) self.now.known)) }
     {
         let message = Message::Threshold {
-            amount: self.bounds.threshold_of(self.value, to),
+            amount: self.bounds.share_at(self.value, place),
             context: self.known.copy()?,
         };
         Ok(Parcel { to, message })
@@ -76,10 +76,10 @@ impl AdoptAgent {
         ensures { OnOk result
             (parcels.new.items ≡ parcels.old.items ++ all_to to (to_child self.now to)) }
     {
-        if !stands_in(self.place.children.as_slice(), to) {
+        let Some(place) = place_in(self.place.children.as_slice(), to) else {
             return Ok(());
-        }
-        parcels.push(self.threshold_for(to)?)?;
+        };
+        parcels.push(self.threshold_for(to, place)?)?;
         if self.has_ended() {
             parcels.push(self.end_for(to)?)?;
         }

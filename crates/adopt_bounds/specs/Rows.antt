@@ -18,10 +18,13 @@ place_of children j = or_zero (position (λ child. child == j) children)
 abbrev pub entry_of : BoundsView → ℕ → ℕ → Entry
 entry_of b d j = entry_at b.rows d (place_of b.children j)
 
+-- the bounds after what the child at place k sent was merged into its entry for own value d
+abbrev pub merged_at : BoundsView → ℕ → ℕ → Context → ℕ → Option ℕ → BoundsView
+merged_at b d k r l u = record b { rows = put_entry b.rows d k (merged (entry_at b.rows d k) r l u) }
+
 -- the bounds after what a child sent was merged into its entry for own value d
 abbrev pub with_merged : BoundsView → ℕ → ℕ → Context → ℕ → Option ℕ → BoundsView
-with_merged b d j r l u =
-    record b { rows = put_entry b.rows d (place_of b.children j) (merged (entry_of b d j) r l u) }
+with_merged b d j r l u = merged_at b d (place_of b.children j) r l u
 
 -- the entries whose parts are at the same places of four lists
 abbrev pub entries_of : List ℕ → List (Option ℕ) → List ℕ → List Context → List Entry

@@ -4,10 +4,10 @@ ghost use Rattle.std.specs.Prelude.{◌≡◌, ◌+◌, ◌*◌, ◌<◌, ◌≤
 ghost use Rattle.dcop_base.specs.Limits.{amount_limit, variable_limit};
 ghost use Rattle.dcop_base.specs.Table.{has};
 ghost use Rattle.adopt_context.specs.Allot.{reset, allot};
-ghost use Rattle.adopt_context.specs.Bounds.{blank, capped, lower_at, row_at, upper_at, upper_sum};
+ghost use Rattle.adopt_context.specs.Bounds.{blank, capped, entry_at, lower_at, row_at, upper_at, upper_sum};
 ghost use Rattle.adopt_context.specs.Context.{compatible};
 ghost use Rattle.adopt_context.specs.Merge.{may_merge};
-ghost use Rattle.adopt_bounds.specs.Rows.{entry_of, place_of, with_merged};
+ghost use Rattle.adopt_bounds.specs.Rows.{entry_of, merged_at, place_of, with_merged};
 
 use crate::allot::allot_at;
 use crate::forget::forget_rows;
@@ -118,7 +118,18 @@ impl Bounds {
         ensures share { result ≡ (entry_of self.now d child).share }
         ensures within { result ≤ amount_limit }
     {
-        self.share[index_of(self.children.as_slice(), d, child)]
+        self.share_at(d, place_of(self.children.as_slice(), child))
+    }
+
+    /// The share of the threshold that is allotted for an own value to the child at this place among
+    /// the children.
+    pub fn share_at(&self, d: Val, place: usize) -> u64
+        requires value { d < length self.now.rows }
+        requires place { place < length self.now.children }
+        ensures share { result ≡ (entry_at self.now.rows d place).share }
+        ensures within { result ≤ amount_limit }
+    {
+        self.share[index_at(self.children.as_slice(), d, place)]
     }
 
     /// Resets the entries whose context is not part of what is known: their bounds become 0 and
@@ -186,7 +197,35 @@ impl Bounds {
             if stored then with_merged self.old d child context.now lower upper else self.old) }
         ensures kept { OnErr result (self.new ≡ self.old) }
     {
-        let index = index_of(self.children.as_slice(), d, child);
+        let place = place_of(self.children.as_slice(), child);
+        self.store_at(d, place, context, lower, upper)
+    }
+
+    /// Merges the bounds that the child at this place among the children sends, as
+    /// [`store`](Bounds::store) does.
+    ///
+    /// # Errors
+    ///
+    /// [`NoMemory`] if memory runs out; nothing changes in that case.
+    pub fn store_at(
+        &mut self,
+        d: Val,
+        place: usize,
+        context: &AgentContext,
+        lower: u64,
+        upper: Option<u64>,
+    ) -> Result<bool, NoMemory>
+        requires value { d < length self.old.rows }
+        requires place { place < length self.old.children }
+        requires compatible { compatible (entry_at self.old.rows d place).context context.now ≡ true }
+        requires lower { lower ≤ amount_limit }
+        requires upper { IfSome upper (λ u. u ≤ amount_limit) }
+        ensures stored { IfOk result (λ stored. stored ≡ may_merge (entry_at self.old.rows d place) lower upper) }
+        ensures merged { IfOk result (λ stored. self.new ≡
+            if stored then merged_at self.old d place context.now lower upper else self.old) }
+        ensures kept { OnErr result (self.new ≡ self.old) }
+    {
+        let index = index_at(self.children.as_slice(), d, place);
         let old = Interval {
             lower: self.lower[index],
             upper: self.upper[index],
@@ -214,13 +253,20 @@ fn none_yet(alloc: Global, count: usize) -> Result<Vec<Option<u64>>, NoMemory>
     Ok(upper)
 }
 
-/// The index in the flat lists of the entry for an own value and a child.
-fn index_of(children: &[VarId], d: Val, child: VarId) -> usize
+/// The place of a child among the children.
+fn place_of(children: &[VarId], child: VarId) -> usize
     requires child { has children.now child ≡ true }
-    requires within { (d + 1) * length children.now ≤ usize.MAX }
-    ensures place { place_of children.now child < length children.now }
-    ensures index { result ≡ d * length children.now + place_of children.now child }
+    ensures place { result ≡ place_of children.now child }
+    ensures within { result < length children.now }
 {
-    let place = position_of(children, child).unwrap_or(0);
+    position_of(children, child).unwrap_or(0)
+}
+
+/// The index in the flat lists of the entry for an own value and the child at a place.
+fn index_at(children: &[VarId], d: Val, place: usize) -> usize
+    requires place { place < length children.now }
+    requires within { (d + 1) * length children.now ≤ usize.MAX }
+    ensures { result ≡ d * length children.now + place }
+{
     usize::from(d.0) * children.len() + place
 }

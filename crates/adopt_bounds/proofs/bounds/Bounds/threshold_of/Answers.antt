@@ -1,20 +1,16 @@
-use Rattle.std.proofs.Common.{◌≡◌, ℕ, ◌+◌, ◌*◌, ◌<◌, List, None, [], length, ap, sym, subst, ◌∙◌}
-use Rattle.adopt_context.specs.Bounds.{Entry}
+use Rattle.std.proofs.Common.{◌≡◌, ℕ, ◌<◌, List, length, ap, subst, ◌∙◌}
+use Rattle.adopt_context.specs.Bounds.{entry_at}
 use Rattle.adopt_bounds.specs.Rows.{BoundsView, place_of}
-use Rattle.adopt_bounds.proofs.PlaceLaws.{seen_entry}
 use Rattle.adopt_bounds.proofs.bounds.Bounds.threshold_of.Goals as goal
+
+pub share_at-requires-clause-place : goal.share_at-requires-clause-place
+share_at-requires-clause-place c =
+    let same = c.as_slice.ensures ∙ ap (λ (v : BoundsView). v.children) c.self.view_is in
+    subst (λ (xs : List ℕ). c.place_of.result < length xs) same c.place_of.ensures.within
 
 pub returns-clause-share : goal.returns-clause-share
 returns-clause-share c =
-    let b = c.self.inside in
-    let w = length b.children in
-    let k = place_of c.args.self.now.children c.args.child in
-    let children : c.as_slice.result.now ≡ b.children = c.as_slice.ensures in
-    let seen : b.children ≡ c.args.self.now.children = ap (λ (v : BoundsView). v.children) c.self.view_is in
-    let place : k < w =
-    subst (λ (xs : List ℕ). place_of xs c.args.child < w) (children ∙ seen) (subst (λ (xs : List ℕ). place_of c.as_slice.result.now c.args.child < length xs) children c.index_of.ensures.place) in
-    let index : c.index_of.result ≡ c.args.d * w + k =
-    c.index_of.ensures.index ∙ ap (λ (xs : List ℕ). c.args.d * length xs + place_of xs c.args.child) children ∙ ap (λ (xs : List ℕ). c.args.d * w + place_of xs c.args.child) seen in
-    let entry = seen_entry (length b.totals.items) w c.args.d k c.index_of.result b.lower.items b.upper.items b.share.items b.contexts.items c.args.self.now.rows 0 None c.index.result.now [] c.self.invariant.parts
-    (ap (λ (v : BoundsView). v.rows) c.self.view_is) c.requires.value place index in
-    c.index.ensures ∙ sym (ap (λ (e : Entry). e.share) entry)
+    let same = c.as_slice.ensures ∙ ap (λ (v : BoundsView). v.children) c.self.view_is in
+    let place : c.place_of.result ≡ place_of c.args.self.now.children c.args.child =
+    c.place_of.ensures.place ∙ ap (λ (xs : List ℕ). place_of xs c.args.child) same in
+    c.share_at.ensures.share ∙ ap (λ (k : ℕ). (entry_at c.args.self.now.rows c.args.d k).share) place
