@@ -6,6 +6,7 @@ mod KeptLaws
 mod WeaveLaws
 mod ExchangeLaws
 mod LeftLaws
+mod LostLaws
 mod OverLaws
 mod SharedLaws
 mod RunLaws

@@ -1,5 +1,5 @@
 -- What exchanges and faults leave of a plan.
-use Rattle.std.specs.Prelude.{◌≡◌, List, ◌++◌}
+use Rattle.std.specs.Prelude.{◌≡◌, ℕ, List, ◌++◌, Result, Ok, Err}
 use Rattle.fifo_links.specs.Link.{SameHead, SameTail}
 use Rattle.worker_laws.specs.Cells.{EachAre}
 use Rattle.worker_laws.specs.Wires.{Passage, Wire}
@@ -54,3 +54,10 @@ module _ {W : Type 0} where
   IsLeftBy before after Failed = KeepsPlan HavePassedMore before after
   IsLeftBy before after (Differs d) = KeepsPlan (HavePassedUntil d) before after
   IsLeftBy before after NoMemory = KeepsPlan HavePassedMore before after
+
+-- how many pairs of wires a run with this result may have lost
+abbrev pub lost_by : {T : Type 0} → Result T NodeFault → ℕ
+lost_by (Ok value) = 0
+lost_by (Err Failed) = 1
+lost_by (Err (Differs d)) = 0
+lost_by (Err NoMemory) = 1

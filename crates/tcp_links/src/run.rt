@@ -7,7 +7,8 @@ ghost use Rattle.worker_laws.specs.Wires.{HaveHeld};
 ghost use Rattle.agent_cells.specs.State.{begun_in, IsCell};
 ghost use Rattle.agent_workers.specs.Joined.{states_of, EachIs, EachBecomes, IsSameCell, AreCellsJoined};
 ghost use Rattle.agent_workers.specs.Run.{views_of, AreDulyPlayed, RestsAtStill};
-ghost use Rattle.tcp_links.specs.Left.{IsTakenOut, IsLeftBy};
+ghost use Rattle.node_exchange.specs.Turned.{AreTurned};
+ghost use Rattle.tcp_links.specs.Left.{IsTakenOut, IsLeftBy, lost_by};
 ghost use Rattle.tcp_links.specs.Plans.{pair_count, IsPlan, IsHonest, IsNewPlan, IsSamePlan};
 ghost use Rattle.worker_laws.specs.OneNode.{home};
 ghost use Rattle.tcp_links.specs.Woven.{AreLinksIdle};
@@ -52,9 +53,10 @@ use wire_pump::{Dialer, Wire};
 /// - [`NodeFault::NoMemory`] if memory runs out.
 ///
 /// After a fault the cells and the plan are as the rounds and exchanges left them: the clauses
-/// `same` and `sound` say what is left of the cells, and `left` of the plan. Only the link whose
-/// [`Difference::Message`] is answered is like a new one, and the two wires of one pair of nodes may
-/// be gone.
+/// `same` and `sound` say what is left of the cells, and `left` and `wires` of the plan. Only the
+/// link whose [`Difference::Message`] is answered is like a new one. Only after
+/// [`NodeFault::Failed`] or [`NodeFault::NoMemory`] may a pair of wires be gone, and no more than
+/// one.
 pub fn run_nodes<R, D, G>(
     rt: &R,
     alloc: Global,
@@ -89,6 +91,7 @@ where
     ensures sound { EachIs (λ c. IsCell (λ b. meaning (b.vtable, b.value)) c) cells.new.items }
     ensures plan { OnOk result (IsNewPlan plan.old.agents plan.old.nodes plan.new) }
     ensures left { IfErr result (IsLeftBy plan.old plan.new) }
+    ensures wires { AreTurned D.W.told D.W.is_joined (lost_by result) plan.old.wires.items plan.new.wires.items }
     ensures dialer { D.is_honest dialer.old → D.is_honest dialer.new }
     ensures honest { IsHonest D.W.told D.W.is_joined plan.old → OnOk result (IsHonest D.W.told D.W.is_joined plan.new) × IfErr result IsOtherFault }
 {
@@ -156,6 +159,7 @@ where
     ensures sound { EachIs (λ c. IsCell (λ b. meaning (b.vtable, b.value)) c) cells.new }
     ensures plan { OnOk result (IsNewPlan plan.old.agents plan.old.nodes plan.new) }
     ensures left { IfErr result (IsLeftBy plan.old plan.new) }
+    ensures wires { AreTurned D.W.told D.W.is_joined (lost_by result) plan.old.wires.items plan.new.wires.items }
     ensures dialer { D.is_honest dialer.old → D.is_honest dialer.new }
     ensures honest { IsHonest D.W.told D.W.is_joined plan.old → OnOk result (IsHonest D.W.told D.W.is_joined plan.new) × IfErr result IsOtherFault }
 {

@@ -1,4 +1,4 @@
-use Rattle.std.proofs.Common.{◌∙◌, refl, sym, ap, length, subst}
+use Rattle.std.proofs.Common.{◌∙◌, Err, refl, sym, ap, length, subst}
 use Rattle.worker_laws.specs.Cells.{EachAre}
 use Rattle.worker_laws.specs.OneNode.{home}
 use Rattle.worker_laws.proofs.EachLaws.{each_long}
@@ -12,6 +12,10 @@ use Rattle.tcp_links.specs.Over.{IsExchangeFault}
 use Rattle.tcp_links.proofs.ExchangeLaws.{twice_written, long_written, no_difference, nothing_came, are_across, can_drain, can_feed, still_taken, fault_on, woven_on, idle_on, caught_up, exchange_on, held_on, has_exchanged, idle_slices, emptied_slices, can_drain_slices, sent_slices, taken_slices, links_slices, links_of, sent_where_still, taken_where_still, drained_slices, can_feed_slices, fed_slices}
 use Rattle.tcp_links.specs.Left.{HavePassedMore, AreSameEnds}
 use Rattle.tcp_links.proofs.LeftLaws.{have_none, all_ends_then, keeps_parts}
+use Rattle.node_exchange.proofs.TurnLaws.{turned_none, turned_less, turned_long}
+use Rattle.tcp_links.specs.Left.{lost_by}
+use Rattle.node_exchange.specs.Turned.{AreTurned}
+use Rattle.tcp_links.proofs.LostLaws.{turned_fault}
 use Rattle.tcp_links.proofs.exchange.exchange.Goals as goal
 
 pub drain_all-requires-clause-can : goal.drain_all-requires-clause-can
@@ -124,7 +128,7 @@ returns-clause-exchanged g c =
     let kept = written _ c.args.plan.now.kept.items c.feed_all.new.kept c.as_mut_slice-4.result.now c.args.plan.now.kept.ok.0 c.feed_all.ensures.sizes.0 c.as_mut_slice-4.ensures.value in
     let two = long_written _ _ c.pass_all.new.passings c.as_mut_slice-3.result.now one longer c.as_mut_slice-3.ensures.value in
     let left = written _ _ c.feed_all.new.passings c.as_mut_slice-6.result.now two c.feed_all.ensures.sizes.2 c.as_mut_slice-6.ensures.value in
-    has_exchanged (λ b. (goal.Machine-dyn g (b.vtable, b.value)).meaning b.value) c.args.plan.now _ c.args.cells.now c.feed_all.new.cells c.feed_all.new.kept c.feed_all.new.ends c.feed_all.new.passings c.requires.plan refl refl c.in_default.ensures.wires kept
+    has_exchanged (λ b. (goal.Machine-dyn g (b.vtable, b.value)).meaning b.value) c.args.plan.now _ c.args.cells.now c.feed_all.new.cells c.feed_all.new.kept c.feed_all.new.ends c.feed_all.new.passings c.requires.plan refl refl (turned_long g.D.W.Wire.told g.D.W.Wire.is_joined c.args.plan.now.wires.items c.pass_all.new.wires.items c.in_default.ensures.wires) kept
     (twice_written _ c.args.plan.now.ends.items c.drain_all.new.ends c.as_mut_slice.result.now c.feed_all.new.ends c.as_mut_slice-5.result.now c.args.plan.now.ends.ok.0 (drained.size ∙ ap length (sym c.as_mut_slice.ensures.value)) c.as_mut_slice.ensures.value c.feed_all.ensures.sizes.1 c.as_mut_slice-5.ensures.value)
     left (idle_on (λ b. (goal.Machine-dyn g (b.vtable, b.value)).meaning b.value) c.args.plan.now.nodes c.args.plan.now.agents c.args.plan.now.kept.items c.args.plan.now.ends.items c.drain_all.new.ends c.args.cells.now c.drain_all.new.cells c.drain_all.new.passings c.requires.woven c.drain_all.ensures.quiet drained c.pass_all.new.passings c.feed_all.new.kept c.feed_all.new.ends c.feed_all.new.cells same c.feed_all.ensures.quiet fed c.feed_all.new.passings (emptied_slices c.args.plan.now.kept.items c.as_mut_slice-4.result.now c.pass_all.new.passings c.as_mut_slice-6.result.now c.feed_all.new.passings c.as_mut_slice-4.ensures.value passed c.in_ok-feed_all.ensures.left))
     (caught_up (λ b. (goal.Machine-dyn g (b.vtable, b.value)).meaning b.value) c.args.plan.now.nodes c.args.plan.now.agents c.args.plan.now.kept.items c.args.plan.now.ends.items c.drain_all.new.ends c.args.cells.now c.drain_all.new.cells c.drain_all.new.passings c.requires.woven c.drain_all.ensures.quiet drained c.pass_all.new.passings c.feed_all.new.kept c.feed_all.new.ends c.feed_all.new.cells same c.feed_all.ensures.quiet fed _ c.in_ok-note_all.ensures)
@@ -190,3 +194,18 @@ returns-clause-left g c =
     let kept = written _ c.args.plan.now.kept.items c.feed_all.new.kept c.as_mut_slice-4.result.now c.args.plan.now.kept.ok.0 c.feed_all.ensures.sizes.0 c.as_mut_slice-4.ensures.value in
     keeps_parts c.args.plan.now _ c.feed_all.new.ends c.feed_all.new.kept refl refl twice kept (all_ends_then c.args.plan.now.ends.items c.drain_all.new.ends c.feed_all.new.ends same more)
     (subst (λ ws. HavePassedMore ws c.feed_all.new.kept) c.as_mut_slice-4.ensures.value c.feed_all.ensures.kept)
+
+pub returns-in_err-drain_all-clause-wires : goal.returns-in_err-drain_all-clause-wires
+returns-in_err-drain_all-clause-wires g c = turned_none g.D.W.Wire.told g.D.W.Wire.is_joined _ c.args.plan.now.wires.items
+
+pub returns-in-Err-clause-wires : goal.returns-in-Err-clause-wires
+returns-in-Err-clause-wires g c = subst (λ e. AreTurned g.D.W.Wire.told g.D.W.Wire.is_joined (lost_by {T = Unit {0}} (Err e)) c.args.plan.now.wires.items c.pass_all.new.wires.items) (sym c.node_fault.ensures) (turned_fault g.D.W.Wire.told g.D.W.Wire.is_joined c.args.plan.now.wires.items c.pass_all.new.wires.items c.args.round c.in-Err.fault c.in-Err.ensures.wires)
+
+pub returns-in_err-feed_all-clause-wires : goal.returns-in_err-feed_all-clause-wires
+returns-in_err-feed_all-clause-wires g c = turned_less g.D.W.Wire.told g.D.W.Wire.is_joined _ c.args.plan.now.wires.items c.pass_all.new.wires.items c.in_default.ensures.wires
+
+pub returns-in_err-note_all-clause-wires : goal.returns-in_err-note_all-clause-wires
+returns-in_err-note_all-clause-wires g c = turned_less g.D.W.Wire.told g.D.W.Wire.is_joined _ c.args.plan.now.wires.items c.pass_all.new.wires.items c.in_default.ensures.wires
+
+pub returns-clause-wires : goal.returns-clause-wires
+returns-clause-wires g c = c.in_default.ensures.wires

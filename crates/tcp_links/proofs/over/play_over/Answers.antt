@@ -9,6 +9,8 @@ use Rattle.tcp_links.proofs.OverLaws.{err_on, nothing_on, cause_on, joined_over,
 use Rattle.tcp_links.specs.Shared.{ArePlayedSharedOver}
 use Rattle.tcp_links.proofs.SharedLaws.{if_ended, if_broken, shared_at, shared_start, shared_all, shared_more, shared_last}
 use Rattle.tcp_links.proofs.LeftLaws.{keeps_none, keeps_then, same_then}
+use Rattle.node_exchange.proofs.TurnLaws.{turned_none, turned_then}
+use Rattle.tcp_links.proofs.LostLaws.{turned_on}
 use Rattle.tcp_links.proofs.over.play_over.Goals as goal
 
 pub loop-round-init : goal.loop-round-init
@@ -17,6 +19,7 @@ loop-round-init g c = record {
   size = refl;
   same = same_all (λ b. (goal.Machine-dyn g (b.vtable, b.value)).meaning b.value) c.args.cells.now;
   left = keeps_none c.args.plan.now;
+  wires = turned_none g.D.W.Wire.told g.D.W.Wire.is_joined 0 c.args.plan.now.wires.items;
   joined = c.requires.joined;
   begun = c.requires.begun;
   fine = c.requires.fine;
@@ -163,6 +166,7 @@ loop-round-preserved g c = let i = c.loop-round.invariant in let was = i.deliver
   size = c.round_over.ensures.size ∙ c.loop-round.invariant.size;
   same = same_then (λ b. (goal.Machine-dyn g (b.vtable, b.value)).meaning b.value) c.args.cells.now c.loop-round.cells c.round_over.new.cells c.loop-round.invariant.same c.round_over.ensures.same;
   left = keeps_then c.args.plan.now c.loop-round.plan c.round_over.new.plan c.loop-round.invariant.left c.round_over.ensures.left;
+  wires = turned_then g.D.W.Wire.told g.D.W.Wire.is_joined 0 c.args.plan.now.wires.items c.loop-round.plan.wires.items c.round_over.new.plan.wires.items c.loop-round.invariant.wires c.in_ok-taken.ensures.wires;
   joined = joined_back (λ b. (goal.Machine-dyn g (b.vtable, b.value)).meaning b.value) c.args.plan.now c.loop-round.plan c.round_over.new.cells c.loop-round.invariant.over.nodes c.round_over.ensures.joined;
   begun = c.round_over.ensures.begun;
   fine = made.fine;
@@ -267,3 +271,24 @@ returns-clause-same g c = c.loop-round.invariant.same
 
 pub returns-clause-left : goal.returns-clause-left
 returns-clause-left g c = c.loop-round.invariant.left
+
+pub returns-then-all_ended-clause-wires : goal.returns-then-all_ended-clause-wires
+returns-then-all_ended-clause-wires g c = turned_none g.D.W.Wire.told g.D.W.Wire.is_joined 0 c.args.plan.now.wires.items
+
+pub returns-in_err-taken-clause-wires : goal.returns-in_err-taken-clause-wires
+returns-in_err-taken-clause-wires g c = turned_on g.D.W.Wire.told g.D.W.Wire.is_joined c.args.plan.now.wires.items c.round_over.new.plan.wires.items (Option ℕ) c.from_residual.result _ c.from_residual.ensures.1 (turned_then g.D.W.Wire.told g.D.W.Wire.is_joined _ c.args.plan.now.wires.items c.loop-round.plan.wires.items c.round_over.new.plan.wires.items c.loop-round.invariant.wires c.in_err-taken.ensures.wires)
+
+pub returns-in_default-clause-wires : goal.returns-in_default-clause-wires
+returns-in_default-clause-wires g c = turned_then g.D.W.Wire.told g.D.W.Wire.is_joined 0 c.args.plan.now.wires.items c.loop-round.plan.wires.items c.round_over.new.plan.wires.items c.loop-round.invariant.wires c.in_ok-taken.ensures.wires
+
+pub returns-then-all_ended-2-clause-wires : goal.returns-then-all_ended-2-clause-wires
+returns-then-all_ended-2-clause-wires g c = turned_then g.D.W.Wire.told g.D.W.Wire.is_joined 0 c.args.plan.now.wires.items c.loop-round.plan.wires.items c.round_over.new.plan.wires.items c.loop-round.invariant.wires c.in_ok-taken.ensures.wires
+
+pub returns-then-deliveries-budget-clause-wires : goal.returns-then-deliveries-budget-clause-wires
+returns-then-deliveries-budget-clause-wires g c = turned_then g.D.W.Wire.told g.D.W.Wire.is_joined 0 c.args.plan.now.wires.items c.loop-round.plan.wires.items c.round_over.new.plan.wires.items c.loop-round.invariant.wires c.in_ok-taken.ensures.wires
+
+pub returns-then-taken-eq0-clause-wires : goal.returns-then-taken-eq0-clause-wires
+returns-then-taken-eq0-clause-wires g c = turned_then g.D.W.Wire.told g.D.W.Wire.is_joined 0 c.args.plan.now.wires.items c.loop-round.plan.wires.items c.round_over.new.plan.wires.items c.loop-round.invariant.wires c.in_ok-taken.ensures.wires
+
+pub returns-clause-wires : goal.returns-clause-wires
+returns-clause-wires g c = c.loop-round.invariant.wires

@@ -8,6 +8,8 @@ use Rattle.tcp_links.specs.Over.{IsExchangeFault}
 use Rattle.tcp_links.proofs.OverLaws.{err_on, nothing_on, cause_on, joined_quiet, joined_over, joined_back, fine_quiet, over_played, over_forgot, round_made, broken_made}
 use Rattle.tcp_links.proofs.SharedLaws.{shared_over}
 use Rattle.tcp_links.proofs.LeftLaws.{keeps_same, keeps_then, same_then}
+use Rattle.node_exchange.proofs.TurnLaws.{turned_less}
+use Rattle.tcp_links.proofs.LostLaws.{turned_on}
 use Rattle.tcp_links.proofs.over.round_over.Goals as goal
 
 pub exchange-requires-clause-plan : goal.exchange-requires-clause-plan
@@ -111,3 +113,15 @@ returns-in-Err-NoMemory-clause-same g c = same_then (λ b. (goal.Machine-dyn g (
 
 pub returns-in-Err-NoMemory-clause-left : goal.returns-in-Err-NoMemory-clause-left
 returns-in-Err-NoMemory-clause-left g c = c.exchange.ensures.left
+
+pub returns-in_err-exchange-clause-wires : goal.returns-in_err-exchange-clause-wires
+returns-in_err-exchange-clause-wires g c = turned_on g.D.W.Wire.told g.D.W.Wire.is_joined c.args.plan.now.wires.items c.exchange.new.plan.wires.items (Unit {0}) c.from_residual.result _ c.from_residual.ensures.1 c.in_err-exchange.ensures.wires
+
+pub returns-in-Ok-clause-wires : goal.returns-in-Ok-clause-wires
+returns-in-Ok-clause-wires g c = c.in_ok-exchange.ensures.wires
+
+pub returns-in-Err-StampEnd-clause-wires : goal.returns-in-Err-StampEnd-clause-wires
+returns-in-Err-StampEnd-clause-wires g c = c.in_ok-exchange.ensures.wires
+
+pub returns-in-Err-NoMemory-clause-wires : goal.returns-in-Err-NoMemory-clause-wires
+returns-in-Err-NoMemory-clause-wires g c = turned_less g.D.W.Wire.told g.D.W.Wire.is_joined 1 c.args.plan.now.wires.items c.exchange.new.plan.wires.items c.in_ok-exchange.ensures.wires

@@ -15,6 +15,9 @@ use Rattle.tcp_links.proofs.RunLaws.{held_in, differs_in, never_differ, starts_o
 use Rattle.tcp_links.proofs.SharedLaws.{run_shared}
 use Rattle.tcp_links.specs.Left.{IsTakenOut, IsLeftBy}
 use Rattle.tcp_links.proofs.LeftLaws.{keeps_none, keeps_then, left_played, left_exchanged, left_differing, taken_long, same_then}
+use Rattle.node_exchange.proofs.TurnLaws.{turned_none, turned_then}
+use Rattle.node_exchange.specs.Turned.{AreTurned}
+use Rattle.tcp_links.proofs.LostLaws.{turned_on}
 use Rattle.tcp_links.proofs.run.run_over.Goals as goal
 
 pub play_over-requires-clause-over : goal.play_over-requires-clause-over
@@ -184,3 +187,18 @@ returns-in-Some-clause-left g c =
     let out = subst (λ ws. IsTakenOut c.in-Some.difference ws c.compare.new.kept) c.as_mut_slice.ensures.value c.in-Some.ensures.left in
     left_differing c.in-Some.difference c.args.plan.now c.exchange.new.plan _ c.compare.new.kept (keeps_then c.args.plan.now c.play_over.new.plan c.exchange.new.plan c.play_over.ensures.left c.exchange.ensures.left) refl refl refl
     (written _ c.exchange.new.plan.kept.items c.compare.new.kept c.as_mut_slice.result.now c.exchange.new.plan.kept.ok.0 (taken_long c.in-Some.difference c.as_mut_slice.result.now c.compare.new.kept c.in-Some.ensures.left) c.as_mut_slice.ensures.value) out
+
+pub returns-in_err-begin_all-clause-wires : goal.returns-in_err-begin_all-clause-wires
+returns-in_err-begin_all-clause-wires g c = turned_none g.D.W.Wire.told g.D.W.Wire.is_joined _ c.args.plan.now.wires.items
+
+pub returns-in_err-play-clause-wires : goal.returns-in_err-play-clause-wires
+returns-in_err-play-clause-wires g c = turned_on g.D.W.Wire.told g.D.W.Wire.is_joined c.args.plan.now.wires.items c.play_over.new.plan.wires.items Played c.from_residual-in_err-play.result _ c.from_residual-in_err-play.ensures.1 c.in_err-play.ensures.wires
+
+pub returns-in_err-exchange-clause-wires : goal.returns-in_err-exchange-clause-wires
+returns-in_err-exchange-clause-wires g c = turned_on g.D.W.Wire.told g.D.W.Wire.is_joined c.args.plan.now.wires.items c.exchange.new.plan.wires.items (Unit {0}) c.from_residual-in_err-exchange.result _ c.from_residual-in_err-exchange.ensures.1 (turned_then g.D.W.Wire.told g.D.W.Wire.is_joined _ c.args.plan.now.wires.items c.play_over.new.plan.wires.items c.exchange.new.plan.wires.items c.in_ok-play.ensures.wires c.in_err-exchange.ensures.wires)
+
+pub returns-in-Some-clause-wires : goal.returns-in-Some-clause-wires
+returns-in-Some-clause-wires g c = turned_then g.D.W.Wire.told g.D.W.Wire.is_joined 0 c.args.plan.now.wires.items c.play_over.new.plan.wires.items c.exchange.new.plan.wires.items c.in_ok-play.ensures.wires c.in_ok-exchange.ensures.wires
+
+pub returns-clause-wires : goal.returns-clause-wires
+returns-clause-wires g c = subst (λ ws. AreTurned g.D.W.Wire.told g.D.W.Wire.is_joined 0 c.args.plan.now.wires.items ws) (sym c.clear_links.ensures.wires) (turned_then g.D.W.Wire.told g.D.W.Wire.is_joined 0 c.args.plan.now.wires.items c.play_over.new.plan.wires.items c.exchange.new.plan.wires.items c.in_ok-play.ensures.wires c.in_ok-exchange.ensures.wires)
