@@ -1,7 +1,8 @@
 //! The top call.
 
-ghost use Rattle.std.specs.Prelude.{◌≡◌, map, string_bytes};
-ghost use Rattle.answer_io.specs.Input.{source_state};
+ghost use Rattle.std.specs.Prelude.{◌≡◌, ◌+◌, map, string_bytes};
+ghost use Rattle.dcop_base.specs.Limits.{input_limit};
+ghost use Rattle.answer_io.specs.Input.{Took, read_limit, source_state};
 ghost use Rattle.answer_io.specs.Output.{sink_state};
 ghost use Rattle.program_frame.specs.Working.{Works};
 ghost use Rattle.search_top.specs.Answering.{search_program};
@@ -14,7 +15,8 @@ use std::alloc::Global;
 
 /// Answers these words, which are the arguments of the program. It reads a problem from the source,
 /// searches it for an assignment with the best sum, writes the report of this to the sink, and
-/// returns the status. Words, texts and faults are refused as the program `dcop` refuses them.
+/// returns the status. Words, texts and faults are refused as the program `dcop` refuses them. At
+/// most 2^28 + 65,536 bytes are taken, and each read but the last takes at least one.
 ///
 /// The report is a [`SearchReport`](crate::SearchReport): an assignment with its sum in the file's
 /// own tables, and a bound; no assignment's sum is better than the bound. With [`Status::Solved`]
@@ -33,12 +35,15 @@ pub fn search<S: Source, K: Sink>(
     sink: &mut K,
 ) -> Status
     ensures works { Works search_program (map string_bytes words.now)
-        (source_state (S.left source.old) (S.faults source.old))
-        (source_state (S.left source.new) (S.faults source.new))
+        (source_state (S.left source.old) (S.faults source.old) (S.reads source.old))
+        (source_state (S.left source.new) (S.faults source.new) (S.reads source.new))
         (sink_state (K.held sink.old) (K.finished sink.old))
         (sink_state (K.held sink.new) (K.finished sink.new))
         (K.faults sink.old) (K.faults sink.new) result }
     ensures unwritten { result ≡ Status.NoMemory → sink.new ≡ sink.old }
+    ensures taken { Took 0 (input_limit + read_limit)
+        (source_state (S.left source.old) (S.faults source.old) (S.reads source.old))
+        (source_state (S.left source.new) (S.faults source.new) (S.reads source.new)) }
 {
     match reply_to(alloc, words, source) {
         Ok(reply) => show_reply(alloc, &reply, sink),
