@@ -56,8 +56,8 @@ module _ {W : Type 0} where
   IsLeftBy before after NoMemory = KeepsPlan HavePassedMore before after
 
 -- how many pairs of wires a run with this result may have lost
-abbrev pub lost_by : {T : Type 0} → Result T NodeFault → ℕ
-lost_by (Ok value) = 0
-lost_by (Err Failed) = 1
-lost_by (Err (Differs d)) = 0
-lost_by (Err NoMemory) = 1
+abbrev pub pairs_lost_by : {T : Type 0} → Result T NodeFault → ℕ
+pairs_lost_by (Ok value) = 0
+pairs_lost_by (Err Failed) = 1
+pairs_lost_by (Err (Differs d)) = 0
+pairs_lost_by (Err NoMemory) = 1

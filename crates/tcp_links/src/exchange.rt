@@ -6,7 +6,7 @@ ghost use Rattle.agent_cells.specs.State.{IsCell};
 ghost use Rattle.agent_workers.specs.Joined.{EachIs, EachBecomes, AreCellsJoined};
 ghost use Rattle.agent_workers.specs.Settled.{StaysQuiet};
 ghost use Rattle.node_exchange.specs.Turned.{AreTurned};
-ghost use Rattle.tcp_links.specs.Left.{HavePassedMore, KeepsPlan, lost_by};
+ghost use Rattle.tcp_links.specs.Left.{HavePassedMore, KeepsPlan, pairs_lost_by};
 ghost use Rattle.tcp_links.specs.Plans.{IsPlan, IsHonest};
 ghost use Rattle.tcp_links.specs.Faults.{HasNodeCause, IsOtherFault};
 ghost use Rattle.tcp_links.specs.Woven.{AreWoven};
@@ -49,7 +49,7 @@ where
     requires sound { EachIs (λ c. IsCell (λ b. meaning (b.vtable, b.value)) c) cells.old }
     ensures quiet { EachBecomes (λ a b. StaysQuiet (λ b. meaning (b.vtable, b.value)) a b) cells.old cells.new }
     ensures left { KeepsPlan HavePassedMore plan.old plan.new }
-    ensures wires { AreTurned D.W.told D.W.is_joined (lost_by result) plan.old.wires.items plan.new.wires.items }
+    ensures wires { AreTurned D.W.told D.W.is_joined (pairs_lost_by result) plan.old.wires.items plan.new.wires.items }
     ensures exchanged { OnOk result (HasExchanged (λ b. meaning (b.vtable, b.value)) plan.old cells.old plan.new cells.new) }
     ensures cause { HasNodeCause (D.faults dialer.old) (D.faults dialer.new) result }
     ensures dialer { D.is_honest dialer.old → D.is_honest dialer.new }

@@ -8,7 +8,7 @@ ghost use Rattle.agent_cells.specs.State.{begun_in, IsCell};
 ghost use Rattle.agent_workers.specs.Joined.{states_of, EachIs, EachBecomes, IsSameCell, AreCellsJoined};
 ghost use Rattle.agent_workers.specs.Run.{views_of, AreDulyPlayed, RestsAtStill};
 ghost use Rattle.node_exchange.specs.Turned.{AreTurned};
-ghost use Rattle.tcp_links.specs.Left.{IsTakenOut, IsLeftBy, lost_by};
+ghost use Rattle.tcp_links.specs.Left.{IsTakenOut, IsLeftBy, pairs_lost_by};
 ghost use Rattle.tcp_links.specs.Plans.{pair_count, IsPlan, IsHonest, IsNewPlan, IsSamePlan};
 ghost use Rattle.worker_laws.specs.OneNode.{home};
 ghost use Rattle.tcp_links.specs.Woven.{AreLinksIdle};
@@ -91,7 +91,7 @@ where
     ensures sound { EachIs (λ c. IsCell (λ b. meaning (b.vtable, b.value)) c) cells.new.items }
     ensures plan { OnOk result (IsNewPlan plan.old.agents plan.old.nodes plan.new) }
     ensures left { IfErr result (IsLeftBy plan.old plan.new) }
-    ensures wires { AreTurned D.W.told D.W.is_joined (lost_by result) plan.old.wires.items plan.new.wires.items }
+    ensures wires { AreTurned D.W.told D.W.is_joined (pairs_lost_by result) plan.old.wires.items plan.new.wires.items }
     ensures dialer { D.is_honest dialer.old → D.is_honest dialer.new }
     ensures honest { IsHonest D.W.told D.W.is_joined plan.old → OnOk result (IsHonest D.W.told D.W.is_joined plan.new) × IfErr result IsOtherFault }
 {
@@ -159,7 +159,7 @@ where
     ensures sound { EachIs (λ c. IsCell (λ b. meaning (b.vtable, b.value)) c) cells.new }
     ensures plan { OnOk result (IsNewPlan plan.old.agents plan.old.nodes plan.new) }
     ensures left { IfErr result (IsLeftBy plan.old plan.new) }
-    ensures wires { AreTurned D.W.told D.W.is_joined (lost_by result) plan.old.wires.items plan.new.wires.items }
+    ensures wires { AreTurned D.W.told D.W.is_joined (pairs_lost_by result) plan.old.wires.items plan.new.wires.items }
     ensures dialer { D.is_honest dialer.old → D.is_honest dialer.new }
     ensures honest { IsHonest D.W.told D.W.is_joined plan.old → OnOk result (IsHonest D.W.told D.W.is_joined plan.new) × IfErr result IsOtherFault }
 {

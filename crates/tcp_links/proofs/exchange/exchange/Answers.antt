@@ -13,7 +13,7 @@ use Rattle.tcp_links.proofs.ExchangeLaws.{twice_written, long_written, no_differ
 use Rattle.tcp_links.specs.Left.{HavePassedMore, AreSameEnds}
 use Rattle.tcp_links.proofs.LeftLaws.{have_none, all_ends_then, keeps_parts}
 use Rattle.node_exchange.proofs.TurnLaws.{turned_none, turned_less, turned_long}
-use Rattle.tcp_links.specs.Left.{lost_by}
+use Rattle.tcp_links.specs.Left.{pairs_lost_by}
 use Rattle.node_exchange.specs.Turned.{AreTurned}
 use Rattle.tcp_links.proofs.LostLaws.{turned_fault}
 use Rattle.tcp_links.proofs.exchange.exchange.Goals as goal
@@ -199,7 +199,7 @@ pub returns-in_err-drain_all-clause-wires : goal.returns-in_err-drain_all-clause
 returns-in_err-drain_all-clause-wires g c = turned_none g.D.W.Wire.told g.D.W.Wire.is_joined _ c.args.plan.now.wires.items
 
 pub returns-in-Err-clause-wires : goal.returns-in-Err-clause-wires
-returns-in-Err-clause-wires g c = subst (λ e. AreTurned g.D.W.Wire.told g.D.W.Wire.is_joined (lost_by {T = Unit {0}} (Err e)) c.args.plan.now.wires.items c.pass_all.new.wires.items) (sym c.node_fault.ensures) (turned_fault g.D.W.Wire.told g.D.W.Wire.is_joined c.args.plan.now.wires.items c.pass_all.new.wires.items c.args.round c.in-Err.fault c.in-Err.ensures.wires)
+returns-in-Err-clause-wires g c = subst (λ e. AreTurned g.D.W.Wire.told g.D.W.Wire.is_joined (pairs_lost_by {T = Unit {0}} (Err e)) c.args.plan.now.wires.items c.pass_all.new.wires.items) (sym c.node_fault.ensures) (turned_fault g.D.W.Wire.told g.D.W.Wire.is_joined c.args.plan.now.wires.items c.pass_all.new.wires.items c.args.round c.in-Err.fault c.in-Err.ensures.wires)
 
 pub returns-in_err-feed_all-clause-wires : goal.returns-in_err-feed_all-clause-wires
 returns-in_err-feed_all-clause-wires g c = turned_less g.D.W.Wire.told g.D.W.Wire.is_joined _ c.args.plan.now.wires.items c.pass_all.new.wires.items c.in_default.ensures.wires

@@ -19,7 +19,7 @@ use Rattle.tcp_links.proofs.OverLaws.{err_on}
 use Rattle.tcp_links.proofs.LeftLaws.{keeps_same, left_then}
 use Rattle.node_exchange.proofs.TurnLaws.{turned_none}
 use Rattle.node_exchange.specs.Turned.{AreTurned}
-use Rattle.tcp_links.specs.Left.{lost_by}
+use Rattle.tcp_links.specs.Left.{pairs_lost_by}
 use Rattle.tcp_links.proofs.run.run_nodes.Goals as goal
 
 pub run_over-requires-clause-plan : goal.run_over-requires-clause-plan
@@ -80,7 +80,7 @@ pub returns-clause-left : goal.returns-clause-left
 returns-clause-left g c = on_err _ _ c.run_over.result (λ e. left_then c.args.plan.now c.prepare.new.plan c.run_over.new.plan e (keeps_same c.args.plan.now c.prepare.new.plan c.prepare.ensures.same.agents c.prepare.ensures.same.nodes c.prepare.ensures.same.ends c.prepare.ensures.same.kept)) c.run_over.ensures.left
 
 pub returns-in_err-prepare-clause-wires : goal.returns-in_err-prepare-clause-wires
-returns-in_err-prepare-clause-wires g c = subst (λ ws. AreTurned g.D.W.Wire.told g.D.W.Wire.is_joined (lost_by c.from_residual.result) c.args.plan.now.wires.items ws) (sym c.prepare.ensures.same.wires) (turned_none g.D.W.Wire.told g.D.W.Wire.is_joined _ c.args.plan.now.wires.items)
+returns-in_err-prepare-clause-wires g c = subst (λ ws. AreTurned g.D.W.Wire.told g.D.W.Wire.is_joined (pairs_lost_by c.from_residual.result) c.args.plan.now.wires.items ws) (sym c.prepare.ensures.same.wires) (turned_none g.D.W.Wire.told g.D.W.Wire.is_joined _ c.args.plan.now.wires.items)
 
 pub returns-clause-wires : goal.returns-clause-wires
-returns-clause-wires g c = subst (λ ws. AreTurned g.D.W.Wire.told g.D.W.Wire.is_joined (lost_by c.run_over.result) ws c.run_over.new.plan.wires.items) c.prepare.ensures.same.wires c.run_over.ensures.wires
+returns-clause-wires g c = subst (λ ws. AreTurned g.D.W.Wire.told g.D.W.Wire.is_joined (pairs_lost_by c.run_over.result) ws c.run_over.new.plan.wires.items) c.prepare.ensures.same.wires c.run_over.ensures.wires
