@@ -1,5 +1,5 @@
 -- Copying the front of a list into a buffer is a read of it.
-use Rattle.std.proofs.Common.{◌≡◌, ◌≤◌, ℕ, ◌+◌, min, List, [], ◌++◌, length, take, drop, Option, Some, None, IfSome, MatchOption, unwrap_or, sym, ap, ◌∙◌, arith}
+use Rattle.std.proofs.Common.{◌≡◌, ◌≤◌, ℕ, ◌+◌, min, List, ◌++◌, length, take, drop, Option, Some, None, IfSome, MatchOption, unwrap_or, sym, ap, ◌∙◌, arith}
 use Rattle.std.proofs.Math.Seq.{drop-append_seam, take-append_seam, take-add}
 use Rattle.std.proofs.lemmas.List.{take-append-drop, take_all, drop_all, length-append, length-take-le}
 use Rattle.dcop_edge.specs.Source.{Gives, GivesBehind}

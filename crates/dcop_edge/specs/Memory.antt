@@ -25,7 +25,12 @@ after_call calls = record {
   faults = (if fails_next calls then one_more calls.faults else calls.faults);
 }
 
--- a source in memory: the bytes that are left, and its calls
+-- a source in memory that never fails: the bytes that are left, and the number of its reads
+pub record SteadyState : Type 0 where
+  pub left : List ℕ
+  pub reads : ℕ
+
+-- a source in memory that fails at some calls: the bytes that are left, and its calls
 pub record GivingState : Type 0 where
   pub left : List ℕ
   pub calls : Calls

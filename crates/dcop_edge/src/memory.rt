@@ -1,7 +1,7 @@
 //! A source and a sink in memory that fail at chosen calls.
 
 ghost use Rattle.std.specs.Prelude.{◌≡◌, false, true, [], Some, IfOk, OnOk, OnErr, IfSome, length, is_err};
-ghost use Rattle.dcop_edge.specs.Faults.{HasCause};
+ghost use Rattle.dcop_edge.specs.Faults.{HasCause, one_more};
 ghost use Rattle.dcop_edge.specs.Source.{Gives};
 ghost use Rattle.dcop_edge.specs.Sink.{Takes};
 ghost use Rattle.dcop_edge.specs.Memory.{GivingState, TakingState, no_calls, fails_next, after_call, kept_whole};
@@ -24,7 +24,7 @@ pub struct MemorySource {
 impl Model for MemorySource {
     ghost Value = { GivingState };
 
-    ghost view = { λ s. record { left = s.source; calls = s.calls } };
+    ghost view = { λ s. record { left = s.source.left; calls = s.calls } };
 }
 
 impl MemorySource {
@@ -45,13 +45,16 @@ impl Source for MemorySource {
 
     ghost faults = { λ s. s.calls.faults };
 
+    ghost reads = { λ s. s.calls.came };
+
     fn read(&mut self, into: &mut [u8]) -> Result<usize, Failed>
         ensures given { IfOk result (Gives (Some self.old.left) (Some self.new.left) into.old into.new) }
         ensures none_taken { OnErr result (self.new.left ≡ self.old.left) }
         ensures unfilled { OnErr result (into.new ≡ into.old) }
         ensures cause { HasCause self.old.calls.faults self.new.calls.faults result }
+        ensures counted { self.new.calls.came ≡ one_more self.old.calls.came }
         ensures exact { is_err result ≡ fails_next self.old.calls }
-        ensures counted { self.new.calls ≡ after_call self.old.calls }
+        ensures calls { self.new.calls ≡ after_call self.old.calls }
     {
         self.calls.come()?;
         self.source.read(into)

@@ -1,7 +1,7 @@
 //! Where bytes come from.
 
 ghost use Rattle.std.specs.Prelude.{◌≡◌, ℕ, List, Option, IfOk, OnErr};
-ghost use Rattle.dcop_edge.specs.Faults.{HasCause, HasReadCause};
+ghost use Rattle.dcop_edge.specs.Faults.{HasCause, HasReadCause, one_more};
 ghost use Rattle.dcop_edge.specs.Source.{Gives, GivesBehind};
 
 use crate::fault::{Failed, ReadFault};
@@ -15,6 +15,9 @@ pub trait Source {
     /// The number of its calls that failed.
     ghost faults: { Self → ℕ };
 
+    /// The number of its reads, whatever they gave. It stops at 2^64 - 1.
+    ghost reads: { Self → ℕ };
+
     /// Puts the next bytes at the front of `into` and returns how many they are: at most its
     /// length. If `into` is not empty, 0 means the end of the input.
     ///
@@ -26,7 +29,8 @@ pub trait Source {
         ensures given { IfOk result (Gives (left self.old) (left self.new) into.old into.new) }
         ensures none_taken { OnErr result (left self.new ≡ left self.old) }
         ensures unfilled { OnErr result (into.new ≡ into.old) }
-        ensures cause { HasCause (faults self.old) (faults self.new) result };
+        ensures cause { HasCause (faults self.old) (faults self.new) result }
+        ensures counted { reads self.new ≡ one_more (reads self.old) };
 
     /// Adds the next bytes to the end of `bytes` and returns how many they are: at most `most`. If
     /// `most` is not 0, 0 means the end of the input.
@@ -39,5 +43,6 @@ pub trait Source {
         ensures given { IfOk result (GivesBehind (left self.old) (left self.new) bytes.old.items bytes.new.items most) }
         ensures none_taken { OnErr result (left self.new ≡ left self.old) }
         ensures same { OnErr result (bytes.new.items ≡ bytes.old.items) }
-        ensures cause { HasReadCause (faults self.old) (faults self.new) result };
+        ensures cause { HasReadCause (faults self.old) (faults self.new) result }
+        ensures counted { reads self.new ≡ one_more (reads self.old) };
 }

@@ -20,12 +20,17 @@ const BLOCK: usize = 65_536;
 pub struct StdSource<R> {
     reader: R,
     faults: u64,
+    reads: u64,
 }
 
 impl<R: Read> StdSource<R> {
     /// A source that reads from this reader.
     pub fn new(reader: R) -> Self {
-        StdSource { reader, faults: 0 }
+        StdSource {
+            reader,
+            faults: 0,
+            reads: 0,
+        }
     }
 }
 
@@ -34,8 +39,11 @@ impl<R: Read> Source for StdSource<R> {
 
     ghost faults = { λ s. s.faults };
 
+    ghost reads = { λ s. s.reads };
+
     // std does not say what a reader leaves in the rest of a buffer, so it gets one of its own.
     fn read(&mut self, into: &mut [u8]) -> Result<usize, Failed> {
+        self.reads = self.reads.saturating_add(1);
         let mut block = [0; BLOCK];
         let room = into.len().min(BLOCK);
         match read_again(&mut self.reader, &mut block[..room]) {
@@ -51,6 +59,7 @@ impl<R: Read> Source for StdSource<R> {
     }
 
     fn read_behind(&mut self, bytes: &mut Vec<u8>, most: usize) -> Result<usize, ReadFault> {
+        self.reads = self.reads.saturating_add(1);
         match append_again(&mut self.reader, bytes, most.min(BLOCK))? {
             Some(count) => Ok(count),
             None => {

@@ -1,7 +1,7 @@
 //! A source and a sink in memory that never fail.
 
-ghost use Rattle.std.specs.Prelude.{◌≡◌, ◌≤◌, ℕ, true, false, List, [], Some, IfOk, IfSome, length, take, drop, min, vec_len, vec_capacity, Ok, IsOk};
-ghost use Rattle.dcop_edge.specs.Memory.{RoomState, kept_whole, held_within};
+ghost use Rattle.std.specs.Prelude.{◌≡◌, ◌≤◌, true, false, [], Some, IfOk, IfSome, length, take, drop, min, vec_len, vec_capacity, Ok, IsOk};
+ghost use Rattle.dcop_edge.specs.Memory.{SteadyState, RoomState, kept_whole, held_within};
 ghost use Rattle.dcop_edge.specs.Sink.{Adds};
 
 use crate::fault::{Failed, ReadFault};
@@ -17,12 +17,13 @@ use std::marker::Model;
 pub struct SteadySource {
     bytes: Vec<u8>,
     given: usize,
+    reads: u64,
 }
 
 impl Model for SteadySource {
-    ghost Value = { List ℕ };
+    ghost Value = { SteadyState };
 
-    ghost view = { λ s. drop s.given s.bytes.items };
+    ghost view = { λ s. record { left = drop s.given s.bytes.items; reads = s.reads } };
 
     ghost invariant = { λ s. s.given ≤ vec_len s.bytes };
 }
@@ -30,24 +31,32 @@ impl Model for SteadySource {
 impl SteadySource {
     /// A source that gives these bytes. Allocates nothing.
     pub fn new(bytes: Vec<u8>) -> Self
-        ensures { result ≡ bytes.items }
+        ensures { result ≡ record { left = bytes.items; reads = 0 } }
     {
-        SteadySource { bytes, given: 0 }
+        SteadySource {
+            bytes,
+            given: 0,
+            reads: 0,
+        }
     }
 }
 
 impl Source for SteadySource {
-    ghost left = { λ s. Some s };
+    ghost left = { λ s. Some s.left };
 
     ghost faults = { λ _. 0 };
 
+    ghost reads = { λ s. s.reads };
+
     fn read(&mut self, into: &mut [u8]) -> Result<usize, Failed> {
+        self.reads = self.reads.saturating_add(1);
         let count = fill_front(into, &self.bytes[self.given..]);
         self.given += count;
         Ok(count)
     }
 
     fn read_behind(&mut self, bytes: &mut Vec<u8>, most: usize) -> Result<usize, ReadFault> {
+        self.reads = self.reads.saturating_add(1);
         let left = &self.bytes[self.given..];
         let count = left.len().min(most);
         bytes.extend_from_slice(&left[..count])?;

@@ -1,5 +1,5 @@
-//! Workers and nodes make a run: what cells that are visited in rounds have done is one run of
-//! their agents.
+//! Workers and nodes make a run: if cells are visited in rounds, then all that they did together is
+//! one run of their agents.
 //!
 //! A cell is here a plain value: its agent's view, its stamp, its journal, and all messages that it
 //! sent to each peer and took from each, with their stamps. A visit is one activation on what was
