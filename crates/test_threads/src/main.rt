@@ -1,6 +1,6 @@
-//! Tests of threads, wires and sockets: cells and agents by workers, nodes over wires that fail, and
-//! clients of a server. Prints a line for each row: its name and its count, or that it did not go as
-//! the row says.
+//! Tests of threads, wires and sockets: a round of cells, agents run by workers, nodes over wires
+//! that fail, and clients of a server. Prints a line for each row: its name and its count, or that
+//! it did not go as the row says.
 #![tactic(auto)]
 
 mod gates;

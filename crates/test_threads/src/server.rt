@@ -8,7 +8,7 @@ mod socket;
 use crate::host::Host;
 use crate::pair::TWICE;
 use crate::solving::Answered;
-use serving::{Served, answer_to, answer_to_clients};
+use serving::{answer_to, answer_to_clients};
 use session::{Ended, session_on};
 use socket::{AnsweredOver, answer_over_socket};
 use std::io;
@@ -64,22 +64,16 @@ fn print_two<R>(rt: &R) -> io::Result<()>
 where
     R: Print + Threads + Wait + AllocGlobal + Sync,
 {
-    let Some(
-        Served {
-            answered,
-            missed,
-            replies,
-        },
-    ) = answer_to_clients(rt, "2000 2 4 2", 2)
-    else {
+    let Some(served) = answer_to_clients(rt, "2000 2 4 2", 2) else {
         return print_otherwise(rt, "serve-all-two");
     };
-    let [first, second] = replies.as_slice() else {
+    let [first, second] = served.replies.as_slice() else {
         return print_otherwise(rt, "serve-all-two");
     };
+    let missed = served.missed;
     println!(rt; "serve-all-two: sessions that saw no other: {missed}")?;
     println!(rt; "serve-all-two: replies to each: {first} {second}")?;
-    print_answer(rt, "serve-all-two", answered)
+    print_answer(rt, "serve-all-two", served.answered)
 }
 
 // Prints the outcome of three clients and two workers. The second session begins before the first
@@ -91,7 +85,7 @@ where
     let Some(served) = answer_to_clients(rt, "2000 3 4 2", 3) else {
         return print_otherwise(rt, "serve-three");
     };
-    let (missed, with_reply) = (served.missed, served.with(1));
+    let (missed, with_reply) = (served.missed, served.connections_with(1));
     println!(rt;
         "serve-three: sessions that saw no other: {missed}, clients with a reply: {with_reply}"
     )?;
@@ -106,7 +100,7 @@ where
     let Some(served) = answer_to_clients(rt, "2000 3 4 2", 2) else {
         return print_otherwise(rt, "serve-few");
     };
-    let unserved = served.with(0);
+    let unserved = served.connections_with(0);
     println!(rt; "serve-few: connections given back unserved: {unserved}")?;
     print_refusal(rt, "serve-few", served.answered)
 }

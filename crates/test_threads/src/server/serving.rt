@@ -18,14 +18,14 @@ pub(crate) struct Served {
     pub(crate) answered: Answered,
     /// How many of the first two sessions saw no other one.
     pub(crate) missed: u64,
-    /// How many replies to the pair of agents, and nothing else, were written to each connection, in
-    /// the order in which these were given back.
+    /// How many replies to the pair of agents, and nothing else, were written to each connection,
+    /// in the order in which these were given back.
     pub(crate) replies: Vec<u64>,
 }
 
 impl Served {
     /// To how many connections exactly this many replies were written.
-    pub(crate) fn with(&self, replies: u64) -> u64 {
+    pub(crate) fn connections_with(&self, replies: u64) -> u64 {
         let mut count: u64 = 0;
         for written in self.replies.as_slice() {
             if *written == replies {
