@@ -12,11 +12,15 @@ use serving::{answer_to, answer_to_clients};
 use session::{Ended, session_on};
 use socket::{AnsweredOver, answer_over_socket};
 use std::io;
+use std::net::{Net, TcpListener, TcpStream};
 use std::sync::Wait;
 use std::thread::Threads;
 
 /// Prints the rows.
-pub(crate) fn print_rows<R: Host + Print>(rt: &R) -> io::Result<()> {
+pub(crate) fn print_rows<R>(rt: &R) -> io::Result<()>
+where
+    R: Host + Net<Listener = TcpListener, Stream = TcpStream> + Print,
+{
     print_session(rt, "serve-pair-twice", TWICE)?;
     print_session(rt, "serve-cut-frame", b"\x00\x00\x00\x03ab")?;
     print_refused(rt, "80 1 1 1")?;
@@ -106,7 +110,10 @@ where
 }
 
 // Prints the outcome of a client over a socket, which may fall silent.
-fn print_over_socket<R: Host + Print>(rt: &R, row: &str, is_silent: bool) -> io::Result<()> {
+fn print_over_socket<R>(rt: &R, row: &str, is_silent: bool) -> io::Result<()>
+where
+    R: Host + Net<Listener = TcpListener, Stream = TcpStream> + Print,
+{
     let Some(AnsweredOver { answered, replies }) = answer_over_socket(rt, is_silent) else {
         return print_otherwise(rt, row);
     };

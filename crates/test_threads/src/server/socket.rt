@@ -10,7 +10,7 @@ use dcop_edge::{Failed, OpenGate};
 use serve_clients::{ListenFault, Listener, MAX_SILENCE, StdListener};
 use serve_top::ServeStatus;
 use std::io::{Read, Write};
-use std::net::{Net, Shutdown, TcpStream};
+use std::net::{Net, Shutdown, TcpListener, TcpStream};
 use std::random::RandomSource;
 use std::sync::atomic::{AtomicU64, Ordering};
 use std::thread::yield_now;
@@ -49,7 +49,10 @@ pub(crate) struct AnsweredOver {
 
 /// What is answered at a free port of 127.0.0.1 to one client that asks twice for the same and then
 /// says that it is done. If `is_silent`, it asks once and then says nothing.
-pub(crate) fn answer_over_socket<R: Host>(rt: &R, is_silent: bool) -> Option<AnsweredOver> {
+pub(crate) fn answer_over_socket<R>(rt: &R, is_silent: bool) -> Option<AnsweredOver>
+where
+    R: Host + Net<Listener = TcpListener, Stream = TcpStream>,
+{
     let port = AtomicU64::new(UNKNOWN);
     let port = &port;
     let (replies, answered) = thread::join(
@@ -64,7 +67,10 @@ pub(crate) fn answer_over_socket<R: Host>(rt: &R, is_silent: bool) -> Option<Ans
 }
 
 // Serves one client, and sets the mark for no port if there will be none.
-fn serve_once<R: Host>(rt: &R, told: &AtomicU64, is_silent: bool) -> Option<Answered> {
+fn serve_once<R>(rt: &R, told: &AtomicU64, is_silent: bool) -> Option<Answered>
+where
+    R: Host + Net<Listener = TcpListener, Stream = TcpStream>,
+{
     let silence = if is_silent {
         SHORT_SILENCE
     } else {
@@ -76,7 +82,10 @@ fn serve_once<R: Host>(rt: &R, told: &AtomicU64, is_silent: bool) -> Option<Answ
 }
 
 // Serves one client at the first port tried at which nobody else listens.
-fn serve_somewhere<R: Host>(rt: &R, told: &AtomicU64, silence: u64) -> Option<Answered> {
+fn serve_somewhere<R>(rt: &R, told: &AtomicU64, silence: u64) -> Option<Answered>
+where
+    R: Host + Net<Listener = TcpListener, Stream = TcpStream>,
+{
     for _ in 0..MOST_TRIES {
         let port = some_port(rt)?;
         let words = format!(in rt.alloc(); "{port} 1 4 1").ok()?;
