@@ -1,5 +1,0 @@
-use Rattle.std.specs.Prelude.{IsSome}
-use Rattle.test_wires.proofs.pumps.waits_for_good.Given as goal
-
-abbrev pub invariant-loop : goal.invariant-loop
-invariant-loop g l = IsSome l.pump.state
