@@ -1,9 +1,10 @@
 //! The reply to words and a source.
 
-ghost use Rattle.std.specs.Prelude.{◌≡◌, map, IfOk, OnErr, string_bytes};
+ghost use Rattle.std.specs.Prelude.{◌≡◌, ◌+◌, map, IfOk, OnErr, string_bytes};
+ghost use Rattle.dcop_base.specs.Limits.{input_limit};
 ghost use Rattle.dcop_base.specs.Whole.{IsProblem};
 ghost use Rattle.problem_text.specs.Steps.{declared_by};
-ghost use Rattle.answer_io.specs.Input.{source_state};
+ghost use Rattle.answer_io.specs.Input.{Took, read_limit, source_state};
 ghost use Rattle.answer_io.specs.Whole.{whole_read};
 ghost use Rattle.program_frame.specs.Program.{IsReplied};
 ghost use Rattle.program_frame.specs.Replies.{IsShowable};
@@ -27,10 +28,13 @@ pub(crate) fn reply_to<S: Source>(
     source: &mut S,
 ) -> Result<Reply, NoMemory>
     ensures replied { IfOk result (IsReplied order_program (map string_bytes words.now)
-        (source_state (S.left source.old) (S.faults source.old))
-        (source_state (S.left source.new) (S.faults source.new))) }
+        (source_state (S.left source.old) (S.faults source.old) (S.reads source.old))
+        (source_state (S.left source.new) (S.faults source.new) (S.reads source.new))) }
     ensures told { IfOk result IsShowable }
     ensures quiet { OnErr result (S.faults source.new ≡ S.faults source.old) }
+    ensures taken { Took 0 (input_limit + read_limit)
+        (source_state (S.left source.old) (S.faults source.old) (S.reads source.old))
+        (source_state (S.left source.new) (S.faults source.new) (S.reads source.new)) }
 {
     match question_of(alloc, read_order_words(words), source)? {
         Question::Text { asked, bytes } => text_reply(alloc, asked, bytes.as_slice()),

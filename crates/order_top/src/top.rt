@@ -1,7 +1,8 @@
 //! The top call.
 
-ghost use Rattle.std.specs.Prelude.{◌≡◌, map, string_bytes};
-ghost use Rattle.answer_io.specs.Input.{source_state};
+ghost use Rattle.std.specs.Prelude.{◌≡◌, ◌+◌, map, string_bytes};
+ghost use Rattle.dcop_base.specs.Limits.{input_limit};
+ghost use Rattle.answer_io.specs.Input.{Took, read_limit, source_state};
 ghost use Rattle.answer_io.specs.Output.{sink_state};
 ghost use Rattle.program_frame.specs.Working.{Works};
 ghost use Rattle.order_top.specs.Answering.{order_program};
@@ -14,7 +15,8 @@ use std::alloc::Global;
 
 /// Answers these words, which are the arguments of the program: reads a problem from the source,
 /// writes it to the sink in an order that makes its depth-first tree narrower, or as it is, and
-/// gives the status. Words, texts and faults are refused as by the program `dcop`.
+/// gives the status. Words, texts and faults are refused as by the program `dcop`. At most
+/// 2^28 + 65,536 bytes are taken, and each read but the last takes at least one.
 ///
 /// [`Status::ReadFault`] and [`Status::WriteFault`] come only if the source or the sink failed in
 /// this call. With `WriteFault` a prefix of the answer is written. With [`Status::NoMemory`], when
@@ -27,12 +29,15 @@ pub fn order<S: Source, K: Sink>(
     sink: &mut K,
 ) -> Status
     ensures works { Works order_program (map string_bytes words.now)
-        (source_state (S.left source.old) (S.faults source.old))
-        (source_state (S.left source.new) (S.faults source.new))
+        (source_state (S.left source.old) (S.faults source.old) (S.reads source.old))
+        (source_state (S.left source.new) (S.faults source.new) (S.reads source.new))
         (sink_state (K.held sink.old) (K.finished sink.old))
         (sink_state (K.held sink.new) (K.finished sink.new))
         (K.faults sink.old) (K.faults sink.new) result }
     ensures unwritten { result ≡ Status.NoMemory → sink.new ≡ sink.old }
+    ensures taken { Took 0 (input_limit + read_limit)
+        (source_state (S.left source.old) (S.faults source.old) (S.reads source.old))
+        (source_state (S.left source.new) (S.faults source.new) (S.reads source.new)) }
 {
     match reply_to(alloc, words, source) {
         Ok(reply) => show_reply(alloc, &reply, sink),
