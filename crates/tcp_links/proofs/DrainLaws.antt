@@ -1,6 +1,7 @@
 -- Draining a link between nodes to its end.
 use Rattle.std.proofs.Common.{◌≡◌, ℕ, suc, ◌+◌, ◌-◌, ◌<◌, ◌≤◌, Bool, true, false, ◌==◌, ◌||◌, if◌then◌else◌, ◌⊎◌, List, [], ◌∷◌, ◌++◌, length, refl, sym, ap, ap₂, subst, ◌∙◌, inl, inr, arith, slice_index_or}
 use Rattle.std.specs.List.{Contains}
+use mathlib.Core.List.{IsPrefix}
 use Rattle.std.specs.List.Sorted.{IsStrictlyIncreasing}
 use Rattle.std.specs.declared.dyn_box.DynBox.{DynBox}
 use Rattle.std.specs.declared.alloc.Global.{Global}
@@ -72,6 +73,19 @@ tail_still ts us to h g j s r = record {
       ) in
       subst (λ (x : Tail). AreEnds x.1 g) same_u new;
 }
+
+-- a list begins with itself, and with what begins a first part of it
+pub prefix_none : {A : Type 0} (xs : List A) → IsPrefix xs xs
+prefix_none xs = ([], append-nil xs)
+
+pub prefix_then : {A : Type 0} (xs ys zs : List A) → IsPrefix xs ys → IsPrefix ys zs → IsPrefix xs zs
+prefix_then xs ys zs p q = (p.0 ++ q.0, sym (append_assoc xs p.0 q.0) ∙ ap (λ us. us ++ q.0) p.1 ∙ q.1)
+
+pub prefix_more : {A : Type 0} (xs ys more : List A) → ys ≡ xs ++ more → IsPrefix xs ys
+prefix_more xs ys more is = (more, sym is)
+
+pub prefix_same : {A : Type 0} (xs ys : List A) → ys ≡ xs → IsPrefix xs ys
+prefix_same xs ys is = ([], append-nil xs ∙ sym is)
 
 pub head_then : (a b c : LinkHead (ℕ × Message)) → SameHead a b → SameHead b c → SameHead a c
 head_then a b c r s = ((s.0.0 ∙ r.0.0, s.0.1 ∙ r.0.1, s.0.2 ∙ r.0.2, s.0.3 ∙ r.0.3), s.1 ∙ r.1)

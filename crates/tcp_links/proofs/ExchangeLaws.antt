@@ -41,7 +41,8 @@ use Rattle.tcp_links.specs.declared.plan.NodePlan.{NodePlan}
 use Rattle.tcp_links.specs.Plans.{AreOrdered, IsBetween, pair_count, IsPlan}
 use Rattle.tcp_links.specs.Drains.{HasDrained}
 use Rattle.tcp_links.specs.Feeds.{AllWaits}
-use Rattle.tcp_links.specs.Kept.{IsLinkKept}
+use Rattle.tcp_links.specs.Kept.{IsLinkKept, IsNoted, AreNoted, IsToNote, AreToNote}
+use Rattle.tcp_links.proofs.NotedLaws.{kept_noted}
 use Rattle.tcp_links.specs.Faults.{node_fault, IsOtherFault}
 use Rattle.tcp_links.specs.Woven.{IsPassingOf, IsLinkIdle, AreLinksIdle, AreLinksOf, AreEmptied, IsWoven, AreWoven, CanDrainAll, CanFeed, CanFeedAll, AreStill, SentWasDrained, FedWasTaken, SentIsDrained, FedIsTaken, HaveCaughtUp, HasDrainedLink, HaveDrained, HasFedLink, HaveFed}
 use Rattle.tcp_links.specs.Over.{IsDrainedOf, HasExchanged, IsExchangeFault}
@@ -115,6 +116,10 @@ long_written n xs ys zs len size same = len ∙ ap length (sym same) ∙ sym siz
 pub idle_slices : (node : ℕ → ℕ) (ws ks : List Wire) (ps qs : List Passing) → ks ≡ ws → qs ≡ ps → AreLinksIdle node ws ps → AreLinksIdle node ks qs
 idle_slices node ws ks ps qs k q h = subst (λ (us : List Wire). AreLinksIdle node us qs) (sym k) (subst (λ (us : List Passing). AreLinksIdle node ws us) (sym q) h)
 
+pub note_slices : (ws ks : List Wire) (ds es : List InnerEnds) (ps qs : List Passing) → ks ≡ ws → es ≡ ds → qs ≡ ps → AreToNote ws ds ps → AreToNote ks es qs
+note_slices ws ks ds es ps qs k e q h =
+    subst (λ (us : List Wire). AreToNote us es qs) (sym k) (subst (λ (us : List InnerEnds). AreToNote ws us qs) (sym e) (subst (λ (us : List Passing). AreToNote ws ds us) (sym q) h))
+
 pub links_slices : (ws ks : List Wire) (ps qs : List Passing) → ks ≡ ws → qs ≡ ps → AreLinksOf ws ps → AreLinksOf ks qs
 links_slices ws ks ps qs k q h = subst (λ (us : List Wire). AreLinksOf us qs) (sym k) (subst (λ (us : List Passing). AreLinksOf ws us) (sym q) h)
 
@@ -122,6 +127,17 @@ pub emptied_slices : (ws ks : List Wire) (ps qs rs : List Passing) → ks ≡ ws
 emptied_slices ws ks ps qs rs k q h = subst (λ (us : List Wire). AreEmptied (length us) ps rs) k (subst (λ (us : List Passing). AreEmptied (length ks) us rs) q h)
 
 module _ {X : Type 0} {F : X → Type 0} (M : DynBox X Global F → View) where
+  -- woven links have noted all
+  pub woven_noted : (nodes agents : ℕ) (ws : List Wire) (es : List InnerEnds) (cells : List (Cell X F)) → AreWoven M nodes agents ws es cells → AreNoted ws es
+  woven_noted nodes agents ws es cells woven = each_from IsNoted ws es woven.ends (λ k w e at_w at_e.
+      let between = all_at (IsBetween agents nodes) ws woven.between k w at_w in
+      let sender = between.sender in
+      let receiver = between.receiver in
+      let size = woven.size in
+      let from = there cells w.sender (omega (arith, sender, size)) in
+      let to = there cells w.receiver (omega (arith, receiver, size)) in
+      kept_noted w e (woven.woven k w e from.0 to.0 at_w at_e from.1 to.1).kept)
+
   -- woven links can be drained
   pub can_drain : (nodes agents : ℕ) (ws : List Wire) (es : List InnerEnds) (cells : List (Cell X F)) → AreWoven M nodes agents ws es cells → EachIs (λ c. IsCell M c) cells → CanDrainAll M ws es cells
   can_drain nodes agents ws es cells woven sound = record {
@@ -212,6 +228,22 @@ module _ {X : Type 0} {F : X → Type 0} (M : DynBox X Global F → View) where
           was = woven.woven k w old.0 from.0 to.0 e old.1 from.1 to.1;
           link = drained.drained k w from.0 old.0 new.0 passing.0 inside e from.1 old.1 new.1 passing.1;
         }
+
+    -- what was drained is to be noted
+    pub to_note : (qs : List Passing) → EachAre SamePassing ps qs → AreToNote ws ds qs
+    to_note qs same k w d q at_w at_d at_q =
+        let on = drained_at k w at_w in
+        let ends : on.new ≡ d = one_at ds k on.new d on.new_is at_d in
+        let came = each_on SamePassing ps qs same k on.passing on.passing_is in
+        let is : came.0 ≡ q = one_at qs k came.0 q came.1 at_q in
+        subst (λ (x : InnerEnds). IsToNote w x q) ends (subst (λ (x : Passing). IsToNote w on.new x) is (record {
+          drained =
+              ap (λ (xs : List (ℕ × Message)). flat_map (λ (p : Passage). p.drained) w.passages ++ xs) came.2.drained
+              ∙ ap (λ (xs : List (ℕ × Message)). xs ++ on.passing.drained) on.was.kept.drained
+              ∙ ap (λ (xs : List (ℕ × Message)). taken_from on.old.drain ++ xs) on.link.more.added
+              ∙ sym on.link.more.taken;
+          arrived = on.was.kept.arrived ∙ ap sent_on (sym on.link.feed);
+        }))
 
     -- where the receiver had taken all, it still has
     pub still_taken : (still : List Bool) → FedIsTaken M still ws es cells → FedIsTaken M still ws ds mid

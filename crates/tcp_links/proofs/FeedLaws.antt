@@ -1,5 +1,6 @@
 -- What waits for a cell on a link from another node.
-use Rattle.std.proofs.Common.{◌≡◌, ℕ, zero, suc, ◌<◌, Bool, true, false, ◌==◌, ◌||◌, ◌⊎◌, if◌then◌else◌, List, [], ◌∷◌, ◌++◌, length, refl, sym, ap, ap₂, subst, ◌∙◌, inl, inr, arith, slice_index_or}
+use Rattle.std.proofs.Common.{◌≡◌, ℕ, zero, suc, ◌<◌, Bool, true, false, ◌==◌, ◌||◌, ◌⊎◌, if◌then◌else◌, List, [], ◌∷◌, ◌++◌, length, Result, Ok, Err, refl, sym, ap, ap₂, subst, ◌∙◌, inl, inr, arith, slice_index_or}
+use Rattle.std.specs.Prelude.{is_err, IfErr}
 use Rattle.std.specs.List.{Contains}
 use Rattle.std.specs.List.Sorted.{IsStrictlyIncreasing}
 use Rattle.std.specs.declared.dyn_box.DynBox.{DynBox}
@@ -25,6 +26,11 @@ use Rattle.agent_cells.proofs.PlainLaws.{settled_plain}
 use Rattle.agent_workers.specs.Settled.{StaysQuiet}
 use Rattle.tcp_links.specs.Feeds.{AllWaits}
 use Rattle.tcp_links.proofs.DrainLaws.{no_items}
+
+-- a refused item leaves what was sent as it was
+pub refused_still : {T : Type 0} (r : Result (Unit {0}) T) (x : T) (P : Type 0) → is_err r ≡ true → IfErr r (λ back. (back ≡ x) × P) → P
+refused_still (Ok y) x P is h = absurd (true≢false (sym is))
+refused_still (Err y) x P is h = h.1
 
 pub tail_none : (t : LinkTail (ℕ × Message)) → SameTail t t
 tail_none t = ((refl, refl, refl, refl), refl)

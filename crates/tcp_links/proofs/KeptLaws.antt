@@ -14,12 +14,12 @@ use Rattle.tcp_links.specs.Drains.{HasDrained}
 use Rattle.tcp_links.specs.Feeds.{AllWaits}
 use Rattle.tcp_links.specs.Kept.{IsLinkKept}
 
-kept_drained : (ds es : List (ℕ × Message)) → flat_map (λ (p : Passage). p.drained) (passage_of ds es) ≡ ds
+pub kept_drained : (ds es : List (ℕ × Message)) → flat_map (λ (p : Passage). p.drained) (passage_of ds es) ≡ ds
 kept_drained [] [] = refl
 kept_drained [] (a ∷ es) = refl
 kept_drained (d ∷ ds) es = append-nil (d ∷ ds)
 
-kept_arrived : (ds es : List (ℕ × Message)) → flat_map (λ (p : Passage). p.arrived) (passage_of ds es) ≡ es
+pub kept_arrived : (ds es : List (ℕ × Message)) → flat_map (λ (p : Passage). p.arrived) (passage_of ds es) ≡ es
 kept_arrived [] [] = refl
 kept_arrived [] (a ∷ es) = append-nil (a ∷ es)
 kept_arrived (d ∷ ds) es = append-nil es

@@ -22,7 +22,8 @@ use Rattle.tcp_links.specs.declared.plan.NodePlan.{NodePlan}
 use Rattle.tcp_links.specs.Over.{IsExchangeFault}
 use Rattle.tcp_links.specs.Ends.{IsFaultOver}
 use Rattle.tcp_links.specs.Left.{HasPassedMore, HavePassedMore, IsTakenOut, AreSameEnds, KeepsPlan, IsLeftBy}
-use Rattle.tcp_links.proofs.DrainLaws.{head_none, head_then}
+use Rattle.fifo_links.specs.Link.{taken_from, sent_on}
+use Rattle.tcp_links.proofs.DrainLaws.{head_none, head_then, prefix_none, prefix_then}
 use Rattle.tcp_links.proofs.FeedLaws.{tail_none, tail_then}
 
 module _ {A : Type 0} (R : A → A → Type 0) (none : (a : A) → R a a) (then : (a b c : A) → R a b → R b c → R a c) where
@@ -70,10 +71,15 @@ pub have_set : (ws vs : List Wire) (k : ℕ) (d v : Wire) → HavePassedMore ws 
 have_set ws vs k d v h lt one = each_set HasPassedMore more_none more_then ws vs k d v h lt one
 
 pub ends_none : (e : InnerEnds) → AreSameEnds e e
-ends_none e = record { drain = head_none e.drain; feed = tail_none e.feed }
+ends_none e = record { drain = head_none e.drain; feed = tail_none e.feed; drained = prefix_none (taken_from e.drain); fed = prefix_none (sent_on e.feed) }
 
 ends_then : (a b c : InnerEnds) → AreSameEnds a b → AreSameEnds b c → AreSameEnds a c
-ends_then a b c r s = record { drain = head_then a.drain b.drain c.drain r.drain s.drain; feed = tail_then a.feed b.feed c.feed r.feed s.feed }
+ends_then a b c r s = record {
+  drain = head_then a.drain b.drain c.drain r.drain s.drain;
+  feed = tail_then a.feed b.feed c.feed r.feed s.feed;
+  drained = prefix_then (taken_from a.drain) (taken_from b.drain) (taken_from c.drain) r.drained s.drained;
+  fed = prefix_then (sent_on a.feed) (sent_on b.feed) (sent_on c.feed) r.fed s.fed;
+}
 
 pub all_ends_none : (es : List InnerEnds) → EachAre AreSameEnds es es
 all_ends_none es = each_none AreSameEnds ends_none ends_then es

@@ -6,6 +6,7 @@ mod KeptLaws
 mod WeaveLaws
 mod ExchangeLaws
 mod LeftLaws
+mod NotedLaws
 mod LostLaws
 mod OverLaws
 mod SharedLaws

@@ -35,6 +35,8 @@ use Rattle.agent_workers.proofs.ListLaws.{map_back, each_are}
 use Rattle.agent_workers.proofs.JoinLaws.{joined_still}
 use Rattle.agent_workers.proofs.SettleLaws.{settling}
 use Rattle.agent_workers.proofs.RunLaws.{none_taken}
+use Rattle.tcp_links.specs.Kept.{AreNoted}
+use Rattle.tcp_links.proofs.ExchangeLaws.{woven_noted}
 use Rattle.tcp_links.specs.declared.fault.Difference.{Difference}
 use Rattle.tcp_links.specs.declared.fault.Difference.TheVariants.{Message, Bytes}
 use Rattle.tcp_links.specs.declared.fault.NodeFault.{NodeFault}
@@ -207,6 +209,10 @@ module _ {X : Type 0} {F : X → Type 0} (M : DynBox X Global F → View) where
           };
       every = l.every;
     }
+
+    -- links on which nothing has passed have noted all
+    pub linked_noted : (p : NodePlan W) (cells : List (Cell X F)) → IsPlan p → AreLinkedOver M p cells → AreCellsJoined M p.nodes cells → AreNoted p.kept.items p.ends.items
+    linked_noted p cells plan l j = woven_noted M p.nodes p.agents p.kept.items p.ends.items cells (linked p cells plan l j)
 
     node_as : (P : (ℕ → ℕ) → Type 0) (p q : NodePlan W) → q.agents ≡ p.agents → q.nodes ≡ p.nodes → P (home q.nodes q.agents) → P (home p.nodes p.agents)
     node_as P p q agents nodes h = subst (λ (n : ℕ). P (home n p.agents)) nodes (subst (λ (n : ℕ). P (home q.nodes n)) agents h)

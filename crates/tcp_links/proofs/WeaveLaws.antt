@@ -26,6 +26,7 @@ use Rattle.agent_workers.proofs.CellLaws.{stays_none}
 use Rattle.agent_workers.proofs.JoinLaws.{stood}
 use Rattle.agent_workers.proofs.PlayLaws.{set_back}
 use Rattle.tcp_links.specs.declared.plan.InnerEnds.{InnerEnds}
+use Rattle.tcp_links.specs.Kept.{IsToNote, AreToNote}
 use Rattle.tcp_links.specs.Drains.{HasDrained}
 use Rattle.tcp_links.specs.Feeds.{AllWaits}
 use Rattle.tcp_links.specs.Woven.{IsLinkIdle, AreLinksIdle, AreLinksOf, AreEmptied, CanDrain, CanDrainAll, CanFeed, CanFeedAll, AreStill, SentIsDrained, FedIsTaken, HasDrainedLink, HaveDrained, HasFedLink, HaveFed, KnowsElse, IsPassingOf}
@@ -414,6 +415,19 @@ module _ {X : Type 0} {F : X → Type 0} (M : DynBox X Global F → View) where
       let lt = slice_get_within vs k w e in
       let old = there ws k (omega (arith, lt, size)) in
       subst (λ (x : Wire). slice_get ws k ≡ Some x) (sym (h.left k old.0 w (omega arith) old.1 e)) old.1
+
+  pub ends_left : (k : ℕ) (cells : List (Cell X F)) (ws vs : List Wire) (before ends : List InnerEnds) (ps : List Passing) (e : InnerEnds) → HaveFed M k cells ws vs before ends ps → slice_get ends k ≡ Some e → slice_get before k ≡ Some e
+  ends_left k cells ws vs before ends ps e h at =
+      let size = h.size in
+      let lt = slice_get_within ends k e at in
+      let old = there before k (omega (arith, lt, size)) in
+      subst (λ (x : InnerEnds). slice_get before k ≡ Some x) (sym (h.rest k old.0 e (omega arith) old.1 at)) old.1
+
+  -- it is still to be noted
+  pub note_next : (k : ℕ) (cells : List (Cell X F)) (ws vs : List Wire) (before ends : List InnerEnds) (ps qs : List Passing) (w : Wire) (e : InnerEnds) (p : Passing) → HaveFed M k cells ws vs before ends ps → AreEmptied k ps qs
+      → slice_get vs k ≡ Some w → slice_get ends k ≡ Some e → slice_get qs k ≡ Some p → AreToNote ws before ps → IsToNote w e p
+  note_next k cells ws vs before ends ps qs w e p h left at_w at_e at_p t =
+      t k w e p (wire_left k cells ws vs before ends ps w h at_w) (ends_left k cells ws vs before ends ps e h at_e) (sym (left.rest k (omega arith)) ∙ at_p)
 
   pub feed_inside : (k : ℕ) (was now : List (Cell X F)) (ws vs : List Wire) (before ends : List InnerEnds) (ps : List Passing) (w : Wire) → CanFeedAll M ws before was → EachBecomes (StaysQuiet M) was now → HaveFed M k now ws vs before ends ps
       → slice_get vs k ≡ Some w → w.receiver < length now

@@ -1,8 +1,11 @@
 -- What a link has passed, by its inner ends.
-use Rattle.std.specs.Prelude.{◌≡◌}
+use Rattle.std.specs.Prelude.{◌≡◌, ℕ, List, Some, ◌++◌, slice_get}
 use Rattle.std.specs.List.{flat_map}
+use mathlib.Core.List.{IsPrefix}
 use Rattle.fifo_links.specs.Link.{sent_on, taken_from}
+use Rattle.worker_laws.specs.Cells.{EachAre}
 use Rattle.worker_laws.specs.Wires.{Wire}
+use Rattle.node_exchange.specs.Passings.{Passing}
 use Rattle.tcp_links.specs.declared.plan.InnerEnds.{InnerEnds}
 
 -- all that was ever drained of a link is what its passages drained, in order, and all that was ever
@@ -10,3 +13,20 @@ use Rattle.tcp_links.specs.declared.plan.InnerEnds.{InnerEnds}
 pub record IsLinkKept (w : Wire) (ends : InnerEnds) : Type 0 where
   pub drained : flat_map (λ p. p.drained) w.passages ≡ taken_from ends.drain
   pub arrived : flat_map (λ p. p.arrived) w.passages ≡ sent_on ends.feed
+
+-- what a link has noted is the first part of all that was ever drained of it, and of all that was
+-- ever fed to its receiver
+pub record IsNoted (w : Wire) (ends : InnerEnds) : Type 0 where
+  pub drained : IsPrefix (flat_map (λ p. p.drained) w.passages) (taken_from ends.drain)
+  pub arrived : IsPrefix (flat_map (λ p. p.arrived) w.passages) (sent_on ends.feed)
+
+abbrev pub AreNoted : List Wire → List InnerEnds → Type 0
+AreNoted ws es = EachAre IsNoted ws es
+
+-- what the exchange drained of a link is all that its passages lack, and nothing was fed since
+pub record IsToNote (w : Wire) (ends : InnerEnds) (p : Passing) : Type 0 where
+  pub drained : flat_map (λ q. q.drained) w.passages ++ p.drained ≡ taken_from ends.drain
+  pub arrived : flat_map (λ q. q.arrived) w.passages ≡ sent_on ends.feed
+
+abbrev pub AreToNote : List Wire → List InnerEnds → List Passing → Type 0
+AreToNote ws es ps = (k : ℕ) (w : Wire) (e : InnerEnds) (p : Passing) → slice_get ws k ≡ Some w → slice_get es k ≡ Some e → slice_get ps k ≡ Some p → IsToNote w e p

@@ -1,6 +1,7 @@
 -- What exchanges and faults leave of a plan.
 use Rattle.std.specs.Prelude.{◌≡◌, ℕ, List, ◌++◌, Result, Ok, Err}
-use Rattle.fifo_links.specs.Link.{SameHead, SameTail}
+use mathlib.Core.List.{IsPrefix}
+use Rattle.fifo_links.specs.Link.{SameHead, SameTail, taken_from, sent_on}
 use Rattle.worker_laws.specs.Cells.{EachAre}
 use Rattle.worker_laws.specs.Wires.{Passage, Wire}
 use Rattle.link_records.specs.Differences.{Differs as DifferKept}
@@ -35,10 +36,13 @@ pub record HavePassedUntil (d : Difference) (before after : List Wire) : Type 0 
   pub more : HavePassedMore before passed
   pub taken_out : IsTakenOut d passed after
 
--- the inner ends of the same link
+-- the inner ends of the same link, of which more may have been drained, and to which more may have
+-- been fed
 pub record AreSameEnds (before after : InnerEnds) : Type 0 where
   pub drain : SameHead before.drain after.drain
   pub feed : SameTail before.feed after.feed
+  pub drained : IsPrefix (taken_from before.drain) (taken_from after.drain)
+  pub fed : IsPrefix (sent_on before.feed) (sent_on after.feed)
 
 module _ {W : Type 0} where
   -- the plan has the same agents, nodes and inner ends as before, and its links are as `Kept` says

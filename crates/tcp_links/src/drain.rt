@@ -2,6 +2,7 @@
 
 ghost use Rattle.std.specs.Prelude.{◌≡◌, ◌+◌, ◌≤◌, length, OnOk};
 ghost use Rattle.std.specs.List.{Contains};
+ghost use mathlib.Core.List.{IsPrefix};
 ghost use Rattle.fifo_links.specs.Link.{taken_from, known_to, SameHead};
 ghost use Rattle.worker_laws.specs.Cells.{peers, lane};
 ghost use Rattle.agent_cells.specs.Settled.{TailJoins};
@@ -29,6 +30,7 @@ pub(crate) fn drain_link(
     requires peer { Contains (peers (state_of (λ b. meaning (b.vtable, b.value)) cell.old).sent) to }
     ensures quiet { StaysQuiet (λ b. meaning (b.vtable, b.value)) cell.old cell.new }
     ensures end { SameHead inner.old inner.new }
+    ensures more { IsPrefix (taken_from inner.old) (taken_from inner.new) }
     ensures drained { OnOk result (HasDrained inner.old drained.old.items inner.new drained.new.items) }
     ensures all { OnOk result (taken_from inner.new ≡ lane to (state_of (λ b. meaning (b.vtable, b.value)) cell.new).sent) }
 {
@@ -46,6 +48,7 @@ fn take_found(
     drained: &mut Vec<Envelope>,
 ) -> Result<(), NoMemory>
     ensures end { SameHead inner.old inner.new }
+    ensures more { IsPrefix (taken_from inner.old) (taken_from inner.new) }
     ensures drained { OnOk result (HasDrained inner.old drained.old.items inner.new drained.new.items) }
     ensures known { OnOk result (length (taken_from inner.old) + length (known_to inner.old) ≤ length (taken_from inner.new)) }
 {

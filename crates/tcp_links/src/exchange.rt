@@ -6,6 +6,7 @@ ghost use Rattle.agent_cells.specs.State.{IsCell};
 ghost use Rattle.agent_workers.specs.Joined.{EachIs, EachBecomes, AreCellsJoined};
 ghost use Rattle.agent_workers.specs.Settled.{StaysQuiet};
 ghost use Rattle.node_exchange.specs.Turned.{AreTurned};
+ghost use Rattle.tcp_links.specs.Kept.{AreNoted};
 ghost use Rattle.tcp_links.specs.Left.{HavePassedMore, KeepsPlan, pairs_lost_by};
 ghost use Rattle.tcp_links.specs.Plans.{IsPlan, IsHonest};
 ghost use Rattle.tcp_links.specs.Faults.{HasNodeCause, IsOtherFault};
@@ -49,6 +50,7 @@ where
     requires sound { EachIs (λ c. IsCell (λ b. meaning (b.vtable, b.value)) c) cells.old }
     ensures quiet { EachBecomes (λ a b. StaysQuiet (λ b. meaning (b.vtable, b.value)) a b) cells.old cells.new }
     ensures left { KeepsPlan HavePassedMore plan.old plan.new }
+    ensures noted { AreNoted plan.new.kept.items plan.new.ends.items }
     ensures wires { AreTurned D.W.told D.W.is_joined (pairs_lost_by result) plan.old.wires.items plan.new.wires.items }
     ensures exchanged { OnOk result (HasExchanged (λ b. meaning (b.vtable, b.value)) plan.old cells.old plan.new cells.new) }
     ensures cause { HasNodeCause (D.faults dialer.old) (D.faults dialer.new) result }

@@ -2,6 +2,7 @@
 
 ghost use Rattle.std.specs.Prelude.{◌≡◌, ◌≢◌, ℕ, ◌++◌, false, IfOk, OnOk};
 ghost use Rattle.std.specs.List.{Contains};
+ghost use mathlib.Core.List.{IsPrefix};
 ghost use Rattle.fifo_links.specs.Link.{sent_on, SameTail};
 ghost use Rattle.worker_laws.specs.Cells.{peers, lane, known_from};
 ghost use Rattle.agent_cells.specs.Settled.{HeadJoins};
@@ -30,6 +31,7 @@ pub(crate) fn feed_link(
     requires peer { Contains (peers (state_of (λ b. meaning (b.vtable, b.value)) cell.old).taken) from }
     ensures quiet { StaysQuiet (λ b. meaning (b.vtable, b.value)) cell.old cell.new }
     ensures end { SameTail inner.old inner.new }
+    ensures more { IsPrefix (sent_on inner.old) (sent_on inner.new) }
     ensures fed { OnOk result (sent_on inner.new ≡ sent_on inner.old ++ arrived.now) }
     ensures others { (j : ℕ) → j ≢ from → known_from j (state_of (λ b. meaning (b.vtable, b.value)) cell.new).known ≡ known_from j (state_of (λ b. meaning (b.vtable, b.value)) cell.old).known }
     ensures waits { OnOk result (AllWaits (state_of (λ b. meaning (b.vtable, b.value)) cell.new) from inner.new) }
@@ -46,6 +48,7 @@ fn send_all(
     arrived: &[Envelope],
 ) -> Result<(), NoMemory>
     ensures end { SameTail inner.old inner.new }
+    ensures more { IsPrefix (sent_on inner.old) (sent_on inner.new) }
     ensures sent { OnOk result (sent_on inner.new ≡ sent_on inner.old ++ arrived.now) }
 {
     for envelope in arrived {

@@ -8,6 +8,7 @@ ghost use Rattle.worker_laws.specs.Wires.{HaveHeld};
 ghost use Rattle.agent_cells.specs.State.{fault_in};
 ghost use Rattle.agent_workers.specs.Joined.{states_of, EachIs, EachBecomes, HasBegun, IsSameCell, AreCellsJoined};
 ghost use Rattle.node_exchange.specs.Turned.{AreTurned};
+ghost use Rattle.tcp_links.specs.Kept.{AreNoted};
 ghost use Rattle.tcp_links.specs.Left.{HavePassedMore, KeepsPlan, pairs_lost_by};
 ghost use Rattle.tcp_links.specs.Plans.{IsHonest};
 ghost use Rattle.tcp_links.specs.Faults.{HasNodeCause, IsOtherFault};
@@ -66,6 +67,7 @@ where
     ensures begun { EachIs (λ c. HasBegun (λ b. meaning (b.vtable, b.value)) c) cells.new }
     ensures same { EachBecomes (λ a b. IsSameCell a b) cells.old cells.new }
     ensures left { KeepsPlan HavePassedMore plan.old plan.new }
+    ensures noted { AreNoted plan.new.kept.items plan.new.ends.items }
     ensures wires { AreTurned D.W.told D.W.is_joined (pairs_lost_by result) plan.old.wires.items plan.new.wires.items }
     ensures over { OnOk result (IsPlanOver (λ b. meaning (b.vtable, b.value)) plan.old plan.new cells.new) }
     ensures played { IfOk result (λ play. ArePlayedTo (λ b. meaning (b.vtable, b.value)) (home plan.old.nodes plan.old.agents) budget plan.old.kept.items
@@ -126,6 +128,7 @@ where
     ensures begun { EachIs (λ c. HasBegun (λ b. meaning (b.vtable, b.value)) c) cells.new }
     ensures same { EachBecomes (λ a b. IsSameCell a b) cells.old cells.new }
     ensures left { KeepsPlan HavePassedMore plan.old plan.new }
+    ensures noted { AreNoted plan.new.kept.items plan.new.ends.items }
     ensures wires { AreTurned D.W.told D.W.is_joined (pairs_lost_by result) plan.old.wires.items plan.new.wires.items }
     ensures over { OnOk result (IsPlanOver (λ b. meaning (b.vtable, b.value)) plan.old plan.new cells.new) }
     ensures round { IfOk result (IsRoundOver (λ b. meaning (b.vtable, b.value)) plan.old cells.old plan.new cells.new) }

@@ -1,6 +1,6 @@
 //! A run of cells in nodes.
 
-ghost use Rattle.std.specs.Prelude.{◌≡◌, ◌<◌, ◌≤◌, [], length, false, IfOk, OnOk, IfErr, IfSome, MatchOption};
+ghost use Rattle.std.specs.Prelude.{◌≡◌, ◌<◌, ◌≤◌, [], length, false, IfOk, OnOk, IfErr, OnErr, IfSome, MatchOption};
 ghost use Rattle.dcop_base.specs.Limits.{variable_limit, budget_limit, node_limit};
 ghost use Rattle.worker_laws.specs.CellRuns.{MakesARun};
 ghost use Rattle.worker_laws.specs.Wires.{HaveHeld};
@@ -8,6 +8,7 @@ ghost use Rattle.agent_cells.specs.State.{begun_in, IsCell};
 ghost use Rattle.agent_workers.specs.Joined.{states_of, EachIs, EachBecomes, IsSameCell, AreCellsJoined};
 ghost use Rattle.agent_workers.specs.Run.{views_of, AreDulyPlayed, RestsAtStill};
 ghost use Rattle.node_exchange.specs.Turned.{AreTurned};
+ghost use Rattle.tcp_links.specs.Kept.{AreNoted};
 ghost use Rattle.tcp_links.specs.Left.{IsTakenOut, IsLeftBy, pairs_lost_by};
 ghost use Rattle.tcp_links.specs.Plans.{pair_count, IsPlan, IsHonest, IsNewPlan, IsSamePlan};
 ghost use Rattle.worker_laws.specs.OneNode.{home};
@@ -53,10 +54,10 @@ use wire_pump::{Dialer, Wire};
 /// - [`NodeFault::NoMemory`] if memory runs out.
 ///
 /// After a fault the cells and the plan are as the rounds and exchanges left them: the clauses
-/// `same` and `sound` say what is left of the cells, and `left` and `wires` of the plan. Only the
-/// link whose [`Difference::Message`] is answered is like a new one. Only after
-/// [`NodeFault::Failed`] or [`NodeFault::NoMemory`] may a pair of wires be gone, and no more than
-/// one.
+/// `same` and `sound` say what is left of the cells, and `left`, `noted` and `wires` of the plan.
+/// Only the link whose [`Difference::Message`] is answered is like a new one, and what a link has
+/// noted really went through its inner ends. Only after [`NodeFault::Failed`] or
+/// [`NodeFault::NoMemory`] may a pair of wires be gone, and no more than one.
 pub fn run_nodes<R, D, G>(
     rt: &R,
     alloc: Global,
@@ -91,6 +92,7 @@ where
     ensures sound { EachIs (λ c. IsCell (λ b. meaning (b.vtable, b.value)) c) cells.new.items }
     ensures plan { OnOk result (IsNewPlan plan.old.agents plan.old.nodes plan.new) }
     ensures left { IfErr result (IsLeftBy plan.old plan.new) }
+    ensures noted { OnErr result (AreNoted plan.new.kept.items plan.new.ends.items) }
     ensures wires { AreTurned D.W.told D.W.is_joined (pairs_lost_by result) plan.old.wires.items plan.new.wires.items }
     ensures dialer { D.is_honest dialer.old → D.is_honest dialer.new }
     ensures honest { IsHonest D.W.told D.W.is_joined plan.old → OnOk result (IsHonest D.W.told D.W.is_joined plan.new) × IfErr result IsOtherFault }
@@ -159,6 +161,7 @@ where
     ensures sound { EachIs (λ c. IsCell (λ b. meaning (b.vtable, b.value)) c) cells.new }
     ensures plan { OnOk result (IsNewPlan plan.old.agents plan.old.nodes plan.new) }
     ensures left { IfErr result (IsLeftBy plan.old plan.new) }
+    ensures noted { OnErr result (AreNoted plan.new.kept.items plan.new.ends.items) }
     ensures wires { AreTurned D.W.told D.W.is_joined (pairs_lost_by result) plan.old.wires.items plan.new.wires.items }
     ensures dialer { D.is_honest dialer.old → D.is_honest dialer.new }
     ensures honest { IsHonest D.W.told D.W.is_joined plan.old → OnOk result (IsHonest D.W.told D.W.is_joined plan.new) × IfErr result IsOtherFault }

@@ -1,9 +1,9 @@
-use Rattle.std.proofs.Common.{◌≡◌, ℕ, ◌-◌, ◌<◌, List, length, subst, arith}
+use Rattle.std.proofs.Common.{◌≡◌, ℕ, ◌-◌, ◌<◌, ◌∙◌, List, length, subst, arith}
 use Rattle.protocol_steps.specs.declared.message.Message.{Message}
 use Rattle.fifo_links.specs.Link.{taken_from}
 use Rattle.worker_laws.specs.Cells.{Lane, lane}
 use Rattle.agent_cells.specs.State.{state_of, tails_in}
-use Rattle.tcp_links.proofs.DrainLaws.{IsSoFar, tail_still, head_then, all_taken, less_left, drained_then, stays_then, tail_quiet, cell_so_far}
+use Rattle.tcp_links.proofs.DrainLaws.{IsSoFar, tail_still, head_then, prefix_more, prefix_then, all_taken, less_left, drained_then, stays_then, tail_quiet, cell_so_far}
 use Rattle.tcp_links.proofs.drain.drain_link.Goals as goal
 
 pub loop-alloc-smaller : goal.loop-alloc-smaller
@@ -44,3 +44,9 @@ returns-clause-all g c =
     let zero : c.settle_tail.result ≡ 0 = omega (arith, none) in
     all_taken (state_of (λ b. (goal.Machine-dyn g (b.vtable, b.value)).meaning b.value) c.settle_tail.new.self) c.args.to c.settle_tail.new.head
     (subst (λ (n : ℕ). IsSoFar (state_of (λ b. (goal.Machine-dyn g (b.vtable, b.value)).meaning b.value) c.settle_tail.new.self) c.args.to n c.settle_tail.new.head) zero far)
+
+pub returns-in_err-take_found-clause-more : goal.returns-in_err-take_found-clause-more
+returns-in_err-take_found-clause-more g c = prefix_then (taken_from c.args.inner.now) (taken_from c.settle_tail.new.head) (taken_from c.take_found.new.inner) (prefix_more (taken_from c.args.inner.now) (taken_from c.settle_tail.new.head) c.loop-alloc.invariant.drained.more (c.settle_tail.ensures.taken ∙ c.loop-alloc.invariant.drained.taken)) c.take_found.ensures.more
+
+pub returns-clause-more : goal.returns-clause-more
+returns-clause-more g c = prefix_more (taken_from c.args.inner.now) (taken_from c.settle_tail.new.head) c.loop-alloc.invariant.drained.more (c.settle_tail.ensures.taken ∙ c.loop-alloc.invariant.drained.taken)

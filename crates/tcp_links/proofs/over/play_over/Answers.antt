@@ -11,6 +11,7 @@ use Rattle.tcp_links.proofs.SharedLaws.{if_ended, if_broken, shared_at, shared_s
 use Rattle.tcp_links.proofs.LeftLaws.{keeps_none, keeps_then, same_then}
 use Rattle.node_exchange.proofs.TurnLaws.{turned_none, turned_then}
 use Rattle.tcp_links.proofs.LostLaws.{turned_on}
+use Rattle.tcp_links.proofs.ExchangeLaws.{woven_noted}
 use Rattle.tcp_links.proofs.over.play_over.Goals as goal
 
 pub loop-round-init : goal.loop-round-init
@@ -19,6 +20,7 @@ loop-round-init g c = record {
   size = refl;
   same = same_all (λ b. (goal.Machine-dyn g (b.vtable, b.value)).meaning b.value) c.args.cells.now;
   left = keeps_none c.args.plan.now;
+  noted = woven_noted (λ b. (goal.Machine-dyn g (b.vtable, b.value)).meaning b.value) c.args.plan.now.nodes c.args.plan.now.agents c.args.plan.now.kept.items c.args.plan.now.ends.items c.args.cells.now c.requires.over.woven;
   wires = turned_none g.D.W.Wire.told g.D.W.Wire.is_joined 0 c.args.plan.now.wires.items;
   joined = c.requires.joined;
   begun = c.requires.begun;
@@ -166,6 +168,7 @@ loop-round-preserved g c = let i = c.loop-round.invariant in let was = i.deliver
   size = c.round_over.ensures.size ∙ c.loop-round.invariant.size;
   same = same_then (λ b. (goal.Machine-dyn g (b.vtable, b.value)).meaning b.value) c.args.cells.now c.loop-round.cells c.round_over.new.cells c.loop-round.invariant.same c.round_over.ensures.same;
   left = keeps_then c.args.plan.now c.loop-round.plan c.round_over.new.plan c.loop-round.invariant.left c.round_over.ensures.left;
+  noted = c.round_over.ensures.noted;
   wires = turned_then g.D.W.Wire.told g.D.W.Wire.is_joined 0 c.args.plan.now.wires.items c.loop-round.plan.wires.items c.round_over.new.plan.wires.items c.loop-round.invariant.wires c.in_ok-taken.ensures.wires;
   joined = joined_back (λ b. (goal.Machine-dyn g (b.vtable, b.value)).meaning b.value) c.args.plan.now c.loop-round.plan c.round_over.new.cells c.loop-round.invariant.over.nodes c.round_over.ensures.joined;
   begun = c.round_over.ensures.begun;
@@ -292,3 +295,24 @@ returns-then-taken-eq0-clause-wires g c = turned_then g.D.W.Wire.told g.D.W.Wire
 
 pub returns-clause-wires : goal.returns-clause-wires
 returns-clause-wires g c = c.loop-round.invariant.wires
+
+pub returns-then-all_ended-clause-noted : goal.returns-then-all_ended-clause-noted
+returns-then-all_ended-clause-noted g c = woven_noted (λ b. (goal.Machine-dyn g (b.vtable, b.value)).meaning b.value) c.args.plan.now.nodes c.args.plan.now.agents c.args.plan.now.kept.items c.args.plan.now.ends.items c.args.cells.now c.requires.over.woven
+
+pub returns-in_err-taken-clause-noted : goal.returns-in_err-taken-clause-noted
+returns-in_err-taken-clause-noted g c = c.round_over.ensures.noted
+
+pub returns-in_default-clause-noted : goal.returns-in_default-clause-noted
+returns-in_default-clause-noted g c = c.round_over.ensures.noted
+
+pub returns-then-all_ended-2-clause-noted : goal.returns-then-all_ended-2-clause-noted
+returns-then-all_ended-2-clause-noted g c = c.round_over.ensures.noted
+
+pub returns-then-deliveries-budget-clause-noted : goal.returns-then-deliveries-budget-clause-noted
+returns-then-deliveries-budget-clause-noted g c = c.round_over.ensures.noted
+
+pub returns-then-taken-eq0-clause-noted : goal.returns-then-taken-eq0-clause-noted
+returns-then-taken-eq0-clause-noted g c = c.round_over.ensures.noted
+
+pub returns-clause-noted : goal.returns-clause-noted
+returns-clause-noted g c = c.loop-round.invariant.noted

@@ -125,3 +125,15 @@ returns-in-Err-StampEnd-clause-wires g c = c.in_ok-exchange.ensures.wires
 
 pub returns-in-Err-NoMemory-clause-wires : goal.returns-in-Err-NoMemory-clause-wires
 returns-in-Err-NoMemory-clause-wires g c = turned_less g.D.W.Wire.told g.D.W.Wire.is_joined 1 c.args.plan.now.wires.items c.exchange.new.plan.wires.items c.in_ok-exchange.ensures.wires
+
+pub returns-in_err-exchange-clause-noted : goal.returns-in_err-exchange-clause-noted
+returns-in_err-exchange-clause-noted g c = c.exchange.ensures.noted
+
+pub returns-in-Ok-clause-noted : goal.returns-in-Ok-clause-noted
+returns-in-Ok-clause-noted g c = c.exchange.ensures.noted
+
+pub returns-in-Err-StampEnd-clause-noted : goal.returns-in-Err-StampEnd-clause-noted
+returns-in-Err-StampEnd-clause-noted g c = c.exchange.ensures.noted
+
+pub returns-in-Err-NoMemory-clause-noted : goal.returns-in-Err-NoMemory-clause-noted
+returns-in-Err-NoMemory-clause-noted g c = c.exchange.ensures.noted

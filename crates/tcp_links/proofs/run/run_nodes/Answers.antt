@@ -20,6 +20,9 @@ use Rattle.tcp_links.proofs.LeftLaws.{keeps_same, left_then}
 use Rattle.node_exchange.proofs.TurnLaws.{turned_none}
 use Rattle.node_exchange.specs.Turned.{AreTurned}
 use Rattle.tcp_links.specs.Left.{pairs_lost_by}
+use Rattle.tcp_links.specs.Kept.{AreNoted}
+use Rattle.tcp_links.proofs.NotedLaws.{on_fault}
+use Rattle.tcp_links.proofs.RunLaws.{linked_noted}
 use Rattle.tcp_links.proofs.run.run_nodes.Goals as goal
 
 pub run_over-requires-clause-plan : goal.run_over-requires-clause-plan
@@ -84,3 +87,9 @@ returns-in_err-prepare-clause-wires g c = subst (λ ws. AreTurned g.D.W.Wire.tol
 
 pub returns-clause-wires : goal.returns-clause-wires
 returns-clause-wires g c = subst (λ ws. AreTurned g.D.W.Wire.told g.D.W.Wire.is_joined (pairs_lost_by c.run_over.result) ws c.run_over.new.plan.wires.items) c.prepare.ensures.same.wires c.run_over.ensures.wires
+
+pub returns-in_err-prepare-clause-noted : goal.returns-in_err-prepare-clause-noted
+returns-in_err-prepare-clause-noted g c = on_fault c.from_residual.result (subst (λ ws. AreNoted ws c.prepare.new.plan.ends.items) (sym c.prepare.ensures.same.kept) (subst (AreNoted c.args.plan.now.kept.items) (sym c.prepare.ensures.same.ends) (linked_noted (λ b. (goal.Machine-dyn g (b.vtable, b.value)).meaning b.value) c.args.plan.now c.args.cells.now.items c.requires.plan c.requires.linked c.requires.joined)))
+
+pub returns-clause-noted : goal.returns-clause-noted
+returns-clause-noted g c = c.run_over.ensures.noted

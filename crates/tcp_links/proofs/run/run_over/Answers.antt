@@ -18,6 +18,9 @@ use Rattle.tcp_links.proofs.LeftLaws.{keeps_none, keeps_then, left_played, left_
 use Rattle.node_exchange.proofs.TurnLaws.{turned_none, turned_then}
 use Rattle.node_exchange.specs.Turned.{AreTurned}
 use Rattle.tcp_links.proofs.LostLaws.{turned_on}
+use Rattle.tcp_links.specs.Kept.{AreNoted}
+use Rattle.tcp_links.proofs.NotedLaws.{noted_out, on_fault}
+use Rattle.tcp_links.proofs.RunLaws.{linked_noted}
 use Rattle.tcp_links.proofs.run.run_over.Goals as goal
 
 pub play_over-requires-clause-over : goal.play_over-requires-clause-over
@@ -202,3 +205,18 @@ returns-in-Some-clause-wires g c = turned_then g.D.W.Wire.told g.D.W.Wire.is_joi
 
 pub returns-clause-wires : goal.returns-clause-wires
 returns-clause-wires g c = subst (λ ws. AreTurned g.D.W.Wire.told g.D.W.Wire.is_joined 0 c.args.plan.now.wires.items ws) (sym c.clear_links.ensures.wires) (turned_then g.D.W.Wire.told g.D.W.Wire.is_joined 0 c.args.plan.now.wires.items c.play_over.new.plan.wires.items c.exchange.new.plan.wires.items c.in_ok-play.ensures.wires c.in_ok-exchange.ensures.wires)
+
+pub returns-in_err-begin_all-clause-noted : goal.returns-in_err-begin_all-clause-noted
+returns-in_err-begin_all-clause-noted g c = on_fault c.from_residual.result (linked_noted (λ b. (goal.Machine-dyn g (b.vtable, b.value)).meaning b.value) c.args.plan.now c.args.cells.now c.requires.plan c.requires.linked c.requires.joined)
+
+pub returns-in_err-play-clause-noted : goal.returns-in_err-play-clause-noted
+returns-in_err-play-clause-noted g c = on_fault c.from_residual-in_err-play.result c.play_over.ensures.noted
+
+pub returns-in_err-exchange-clause-noted : goal.returns-in_err-exchange-clause-noted
+returns-in_err-exchange-clause-noted g c = on_fault c.from_residual-in_err-exchange.result c.exchange.ensures.noted
+
+pub returns-in-Some-clause-noted : goal.returns-in-Some-clause-noted
+returns-in-Some-clause-noted g c =
+    let out = subst (λ ws. IsTakenOut c.in-Some.difference ws c.compare.new.kept) c.as_mut_slice.ensures.value c.in-Some.ensures.left in
+    let kept = written _ c.exchange.new.plan.kept.items c.compare.new.kept c.as_mut_slice.result.now c.exchange.new.plan.kept.ok.0 (taken_long c.in-Some.difference c.as_mut_slice.result.now c.compare.new.kept c.in-Some.ensures.left) c.as_mut_slice.ensures.value in
+    subst (λ ws. AreNoted ws c.exchange.new.plan.ends.items) (sym kept) (noted_out c.in-Some.difference c.exchange.new.plan.kept.items c.compare.new.kept c.exchange.new.plan.ends.items out c.exchange.ensures.noted)

@@ -2,6 +2,8 @@ use Rattle.std.proofs.Common.{◌∙◌, ap, subst, refl}
 use Rattle.node_exchange.specs.Passings.{Passing}
 use Rattle.tcp_links.specs.Drains.{HasDrained}
 use Rattle.tcp_links.proofs.WeaveLaws.{one_quiet, drain_can, drained_link, inside_list}
+use Rattle.fifo_links.specs.Link.{sent_on}
+use Rattle.tcp_links.proofs.DrainLaws.{prefix_none}
 use Rattle.tcp_links.proofs.FeedLaws.{tail_none}
 use Rattle.tcp_links.proofs.LeftLaws.{ends_none}
 use Rattle.tcp_links.proofs.weave.drain_at.Goals as goal
@@ -35,7 +37,7 @@ pub returns-then-is_still-clause-ends : goal.returns-then-is_still-clause-ends
 returns-then-is_still-clause-ends g c = ends_none c.args.ends.now
 
 pub returns-in_err-drain_link-clause-ends : goal.returns-in_err-drain_link-clause-ends
-returns-in_err-drain_link-clause-ends g c = record { drain = c.drain_link.ensures.end; feed = tail_none c.args.ends.now.feed }
+returns-in_err-drain_link-clause-ends g c = record { drain = c.drain_link.ensures.end; feed = tail_none c.args.ends.now.feed; drained = c.drain_link.ensures.more; fed = prefix_none (sent_on c.args.ends.now.feed) }
 
 pub returns-clause-ends : goal.returns-clause-ends
-returns-clause-ends g c = record { drain = c.drain_link.ensures.end; feed = tail_none c.args.ends.now.feed }
+returns-clause-ends g c = record { drain = c.drain_link.ensures.end; feed = tail_none c.args.ends.now.feed; drained = c.drain_link.ensures.more; fed = prefix_none (sent_on c.args.ends.now.feed) }

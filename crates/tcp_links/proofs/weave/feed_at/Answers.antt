@@ -1,7 +1,9 @@
-use Rattle.std.proofs.Common.{◌∙◌, ap₂, refl}
+use Rattle.std.proofs.Common.{◌∙◌, ◌++◌, ap, ap₂, refl}
 use Rattle.link_records.specs.Keeping.{keeps}
 use Rattle.tcp_links.proofs.WeaveLaws.{one_quiet, one_knows_so, feed_can, fed_link, inside_list}
-use Rattle.tcp_links.proofs.DrainLaws.{head_none}
+use Rattle.fifo_links.specs.Link.{taken_from, sent_on}
+use Rattle.tcp_links.proofs.DrainLaws.{head_none, prefix_none}
+use Rattle.tcp_links.proofs.NotedLaws.{to_noted, noted_fed, noted_kept}
 use Rattle.tcp_links.proofs.LeftLaws.{ends_none, more_none, more_kept}
 use Rattle.tcp_links.proofs.weave.feed_at.Goals as goal
 
@@ -45,13 +47,22 @@ pub returns-then-rests-clause-kept : goal.returns-then-rests-clause-kept
 returns-then-rests-clause-kept g c = more_none c.args.link.now
 
 pub returns-in_err-ends-clause-ends : goal.returns-in_err-ends-clause-ends
-returns-in_err-ends-clause-ends g c = record { drain = head_none c.args.ends.now.drain; feed = c.feed_link.ensures.end }
+returns-in_err-ends-clause-ends g c = record { drain = head_none c.args.ends.now.drain; feed = c.feed_link.ensures.end; drained = prefix_none (taken_from c.args.ends.now.drain); fed = c.feed_link.ensures.more }
 
 pub returns-in_err-ends-clause-kept : goal.returns-in_err-ends-clause-kept
 returns-in_err-ends-clause-kept g c = more_none c.args.link.now
 
 pub returns-clause-ends : goal.returns-clause-ends
-returns-clause-ends g c = record { drain = head_none c.args.ends.now.drain; feed = c.feed_link.ensures.end }
+returns-clause-ends g c = record { drain = head_none c.args.ends.now.drain; feed = c.feed_link.ensures.end; drained = prefix_none (taken_from c.args.ends.now.drain); fed = c.feed_link.ensures.more }
 
 pub returns-clause-kept : goal.returns-clause-kept
 returns-clause-kept g c = more_kept c.args.link.now c.keep.new.self _ _ c.keep.ensures.kept
+
+pub returns-then-rests-clause-noted : goal.returns-then-rests-clause-noted
+returns-then-rests-clause-noted g c = λ t. to_noted c.args.link.now c.args.ends.now c.args.passing.now t
+
+pub returns-in_err-ends-clause-noted : goal.returns-in_err-ends-clause-noted
+returns-in_err-ends-clause-noted g c = λ t. noted_fed c.args.link.now c.args.ends.now _ c.args.passing.now t refl c.feed_link.ensures.more
+
+pub returns-clause-noted : goal.returns-clause-noted
+returns-clause-noted g c = λ t. noted_kept c.args.link.now c.keep.new.self c.args.ends.now _ c.args.passing.now t (c.keep.ensures.kept ∙ ap₂ (keeps c.args.link.now) c.take_lists-drained.ensures.lists.0 c.take_lists-drained.ensures.lists.1) refl (c.in_ok-ends.ensures.fed ∙ ap (λ es. sent_on c.args.ends.now.feed ++ es) (c.as_slice.ensures.value ∙ c.take_lists-drained.ensures.lists.1))
