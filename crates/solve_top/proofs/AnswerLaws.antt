@@ -514,7 +514,7 @@ input-well : (text : List ℕ) (words : List (List ℕ)) (accepts : Accepts word
 input-well text words accepts before after Unread answer told steady read is = absurd is
 input-well text words accepts before after Broken answer told steady read is = absurd (steady read.0)
 input-well text words accepts before after TooLong answer told steady read is =
-    let more = taken-least _ _ before.left after.left text told read.0 in absurd (omega (arith, more, accepts.short))
+    let more = taken-least _ _ before after text told read.0 in absurd (omega (arith, more, accepts.short))
 input-well text words accepts before after (Whole bytes) answer told steady read is =
     let all = subst (λ (l : Option (List ℕ)). IsAllOf bytes l after.left) told read.1 in
     task-well accepts.task text answer accepts.fits (subst (λ (t : List ℕ). IsTaskAnswer accepts.task t answer) all.0 is)

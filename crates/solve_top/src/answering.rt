@@ -1,11 +1,11 @@
 //! The answer to words and a source.
 
-ghost use Rattle.std.specs.Prelude.{◌≡◌, ◌<◌, ◌≤◌, length, map, IfOk, OnErr, string_bytes};
+ghost use Rattle.std.specs.Prelude.{◌≡◌, ◌+◌, ◌<◌, ◌≤◌, length, map, IfOk, OnErr, string_bytes};
 ghost use Rattle.dcop_base.specs.Limits.{input_limit};
 ghost use Rattle.solve_report.specs.AnswerText.{HasText};
 ghost use Rattle.problem_text.specs.Steps.{declared_by};
 ghost use Rattle.solve_methods.specs.Goal.{TellsRight};
-ghost use Rattle.answer_io.specs.Input.{source_state};
+ghost use Rattle.answer_io.specs.Input.{Took, read_limit, source_state};
 ghost use Rattle.solve_top.specs.Answering.{IsFileAnswer, IsTextAnswer, IsReportAnswer, IsTaskAnswer, IsUpgraded};
 ghost use Rattle.solve_top.specs.Nodes.{AskForNodes, IsAnswerIn, IsAnswerRead, IsTaskAnswerIn, TellsLinks};
 ghost use Rattle.solve_top.specs.Served.{IsTaskInRange, IsFileTaskInRange};
@@ -58,11 +58,14 @@ where
     G: Gate,
     D: Dialer,
     ensures answered { IfOk result (Answered (map string_bytes words.now)
-        (source_state (S.left source.old) (S.faults source.old))
-        (source_state (S.left source.new) (S.faults source.new))) }
+        (source_state (S.left source.old) (S.faults source.old) (S.reads source.old))
+        (source_state (S.left source.new) (S.faults source.new) (S.reads source.new))) }
     ensures told { IfOk result HasText }
     ensures links { TellsLinks (AskForNodes (map string_bytes words.now)) (D.is_honest dialer.old) (D.faults dialer.old) (D.faults dialer.new) result }
     ensures quiet { OnErr result (S.faults source.new ≡ S.faults source.old) }
+    ensures taken { Took 0 (input_limit + read_limit)
+        (source_state (S.left source.old) (S.faults source.old) (S.reads source.old))
+        (source_state (S.left source.new) (S.faults source.new) (S.reads source.new)) }
 {
     let command = match read_words(alloc, words) {
         Ok(command) => command,

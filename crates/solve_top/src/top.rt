@@ -1,8 +1,9 @@
 //! The top call.
 
-ghost use Rattle.std.specs.Prelude.{◌≡◌, ◌≢◌, ◌⊎◌, ℕ, List, Some, map, string_bytes};
+ghost use Rattle.std.specs.Prelude.{◌≡◌, ◌≢◌, ◌+◌, ◌⊎◌, ℕ, List, Some, map, string_bytes};
+ghost use Rattle.dcop_base.specs.Limits.{input_limit};
 ghost use Rattle.dcop_edge.specs.Faults.{Rose};
-ghost use Rattle.answer_io.specs.Input.{source_state};
+ghost use Rattle.answer_io.specs.Input.{Took, read_limit, source_state};
 ghost use Rattle.answer_io.specs.Output.{sink_state};
 ghost use Rattle.answer_io.specs.Showing.{StaysUnless};
 ghost use Rattle.solve_top.specs.Nodes.{AskForNodes};
@@ -25,7 +26,8 @@ use wire_pump::Dialer;
 /// writes the answer to the sink, and gives the status.
 ///
 /// The words are tested before anything is read, and the whole answer is built before anything is
-/// written. Refusals are written to the sink too.
+/// written. Refusals are written to the sink too. At most 2^28 + 65,536 bytes are taken, and each
+/// read but the last takes at least one.
 ///
 /// `solve` reads a problem and reports an assignment:
 ///
@@ -86,11 +88,14 @@ pub fn solve<
         AskForNodes (map string_bytes words.now) × (¬ D.is_honest dialer.old) }
     ensures answered { result ≢ Status.NoMemory → Solves (map string_bytes words.now)
         (D.is_honest dialer.old) (D.faults dialer.old) (D.faults dialer.new)
-        (source_state (S.left source.old) (S.faults source.old))
-        (source_state (S.left source.new) (S.faults source.new))
+        (source_state (S.left source.old) (S.faults source.old) (S.reads source.old))
+        (source_state (S.left source.new) (S.faults source.new) (S.reads source.new))
         (sink_state (K.held sink.old) (K.finished sink.old))
         (sink_state (K.held sink.new) (K.finished sink.new)) result }
     ensures unwritten { result ≡ Status.NoMemory → sink.new ≡ sink.old }
+    ensures taken { Took 0 (input_limit + read_limit)
+        (source_state (S.left source.old) (S.faults source.old) (S.reads source.old))
+        (source_state (S.left source.new) (S.faults source.new) (S.reads source.new)) }
     ensures source_failed { StaysUnless (S.faults source.old) (S.faults source.new)
         ((result ≡ Status.ReadFault) ⊎ (result ≡ Status.WriteFault) ⊎ (result ≡ Status.NoMemory)) }
     ensures sink_failed { StaysUnless (K.faults sink.old) (K.faults sink.new)
