@@ -10,7 +10,7 @@ ghost use Rattle.protocol_steps.specs.TreeAgents.{adopt_agents};
 ghost use Rattle.problem_text.specs.Steps.{declared_by};
 ghost use Rattle.run_log.specs.LogText.{FitsEvent};
 ghost use Rattle.minimised_problem.specs.LogHolds.{agents_for};
-ghost use Rattle.answer_io.specs.Input.{source_state};
+ghost use Rattle.answer_io.specs.Input.{Took, read_limit, source_state};
 ghost use Rattle.answer_io.specs.Fronts.{front_read};
 ghost use Rattle.trace_text.specs.Trace.{Traces};
 ghost use Rattle.program_frame.specs.Program.{IsReplied};
@@ -41,10 +41,13 @@ pub(crate) fn reply_to<S: Source>(
     source: &mut S,
 ) -> Result<Reply, NoMemory>
     ensures replied { IfOk result (IsReplied trace_program (map string_bytes words.now)
-        (source_state (S.left source.old) (S.faults source.old))
-        (source_state (S.left source.new) (S.faults source.new))) }
+        (source_state (S.left source.old) (S.faults source.old) (S.reads source.old))
+        (source_state (S.left source.new) (S.faults source.new) (S.reads source.new))) }
     ensures told { IfOk result IsShowable }
     ensures quiet { OnErr result (S.faults source.new ≡ S.faults source.old) }
+    ensures taken { Took 0 (input_limit + read_limit)
+        (source_state (S.left source.old) (S.faults source.old) (S.reads source.old))
+        (source_state (S.left source.new) (S.faults source.new) (S.reads source.new)) }
 {
     match question_of(alloc, read_trace_words(words), source)? {
         Question::Text { asked, bytes } => text_reply(alloc, asked, bytes.as_slice()),

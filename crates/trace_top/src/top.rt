@@ -1,7 +1,8 @@
 //! The top call.
 
-ghost use Rattle.std.specs.Prelude.{◌≡◌, map, string_bytes};
-ghost use Rattle.answer_io.specs.Input.{source_state};
+ghost use Rattle.std.specs.Prelude.{◌≡◌, ◌+◌, map, string_bytes};
+ghost use Rattle.dcop_base.specs.Limits.{input_limit};
+ghost use Rattle.answer_io.specs.Input.{Took, read_limit, source_state};
 ghost use Rattle.answer_io.specs.Output.{sink_state};
 ghost use Rattle.program_frame.specs.Working.{Works};
 ghost use Rattle.trace_top.specs.Tracing.{trace_program};
@@ -17,7 +18,7 @@ use std::alloc::Global;
 /// on its depth-first tree, writes the trace of that run to the sink, and gives the status.
 ///
 /// Words, texts and faults are refused as by the program `dcop`, and so is an event that cannot
-/// happen.
+/// happen. At most 2^28 + 65,536 bytes are taken, and each read but the last takes at least one.
 ///
 /// A trace has each agent at its start, and the agent of each event that is asked for: what it
 /// took, the state it reached and what it sent. Stamps are written as the log has them, but not
@@ -34,12 +35,15 @@ pub fn trace<S: Source, K: Sink>(
     sink: &mut K,
 ) -> Status
     ensures works { Works trace_program (map string_bytes words.now)
-        (source_state (S.left source.old) (S.faults source.old))
-        (source_state (S.left source.new) (S.faults source.new))
+        (source_state (S.left source.old) (S.faults source.old) (S.reads source.old))
+        (source_state (S.left source.new) (S.faults source.new) (S.reads source.new))
         (sink_state (K.held sink.old) (K.finished sink.old))
         (sink_state (K.held sink.new) (K.finished sink.new))
         (K.faults sink.old) (K.faults sink.new) result }
     ensures unwritten { result ≡ Status.NoMemory → sink.new ≡ sink.old }
+    ensures taken { Took 0 (input_limit + read_limit)
+        (source_state (S.left source.old) (S.faults source.old) (S.reads source.old))
+        (source_state (S.left source.new) (S.faults source.new) (S.reads source.new)) }
 {
     match reply_to(alloc, words, source) {
         Ok(reply) => show_reply(alloc, &reply, sink),
