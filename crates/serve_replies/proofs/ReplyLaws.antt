@@ -41,29 +41,29 @@ never_rose (inr last) = omega (arith, last)
 
 -- what a call reads from a source that never fails and has a key left has the same answer of DPOP
 -- as the key's input
-belongs_so : (key : List ℕ) (left : Option (List ℕ)) (input : Input) (answer : Answer) → IsReadFrom input (source_state (Some key) 0) (source_state left 0)
+belongs_so : (key : List ℕ) (left : Option (List ℕ)) (old new : ℕ) (input : Input) (answer : Answer) → IsReadFrom input (source_state (Some key) 0 old) (source_state left 0 new)
     → IsInputAnswer (File Own (tasks.Dpop false)) input answer → IsInputAnswer (File Own (tasks.Dpop false)) (input_of key) answer
-belongs_so key left Unread answer read belongs = absurd belongs
-belongs_so key left Broken answer read belongs = absurd (never_rose read.0)
-belongs_so key left TooLong answer read belongs =
-    let long : input_limit + 1 ≤ length key = taken-least _ _ (Some key) left key refl read.0 in
+belongs_so key left old new Unread answer read belongs = absurd belongs
+belongs_so key left old new Broken answer read belongs = absurd (never_rose read.0)
+belongs_so key left old new TooLong answer read belongs =
+    let long : input_limit + 1 ≤ length key = taken-least _ _ (source_state (Some key) 0 old) (source_state left 0 new) key refl read.0 in
     subst (λ (i : Input). IsInputAnswer (File Own (tasks.Dpop false)) i answer) (sym (long_input key (omega (arith, long)))) belongs
-belongs_so key left (Whole bytes) answer read belongs =
+belongs_so key left old new (Whole bytes) answer read belongs =
     let same : bytes ≡ key = read.1.0 in
     let short : length key ≤ input_limit = subst (λ (bs : List ℕ). length bs ≤ input_limit) same read.0 in
     subst (λ (i : Input). IsInputAnswer (File Own (tasks.Dpop false)) i answer) (ap Whole same ∙ sym (whole_input key short)) belongs
 
-belongs_to_key : (key : List ℕ) (left : Option (List ℕ)) (input : Input) (answer : Answer) → IsReadFrom input (source_state (Some key) 0) (source_state left 0)
+belongs_to_key : (key : List ℕ) (left : Option (List ℕ)) (old new : ℕ) (input : Input) (answer : Answer) → IsReadFrom input (source_state (Some key) 0 old) (source_state left 0 new)
     → IsAnswer dpop_words input answer → IsAnswer dpop_words (input_of key) answer
-belongs_to_key key left input answer read belongs = to_words (input_of key) answer (belongs_so key left input answer read (of_words input answer belongs))
+belongs_to_key key left old new input answer read belongs = to_words (input_of key) answer (belongs_so key left old new input answer read (of_words input answer belongs))
 
 -- what `solve` answers on a source that never fails and has a key left
-pub answered_so : (key given : List ℕ) (words : List (List ℕ)) (left : Option (List ℕ)) (answer : Answer) → given ≡ key → words ≡ dpop_words
-    → Answered words (source_state (Some given) 0) (source_state left 0) answer → IsAnswer dpop_words (input_of key) answer
-answered_so key given words left answer is_key is_dpop is =
-    let read = subst (λ (k : List ℕ). IsReadFrom is.input (source_state (Some k) 0) (source_state left 0)) is_key is.read in
+pub answered_so : (key given : List ℕ) (words : List (List ℕ)) (left : Option (List ℕ)) (old new : ℕ) (answer : Answer) → given ≡ key → words ≡ dpop_words
+    → Answered words (source_state (Some given) 0 old) (source_state left 0 new) answer → IsAnswer dpop_words (input_of key) answer
+answered_so key given words left old new answer is_key is_dpop is =
+    let read = subst (λ (k : List ℕ). IsReadFrom is.input (source_state (Some k) 0 old) (source_state left 0 new)) is_key is.read in
     let own : IsGiven dpop_words is.input answer = subst (λ (ws : List (List ℕ)). IsGiven ws is.input answer) is_dpop is.belongs in
-    belongs_to_key key left is.input answer read (own_answer is.input answer own)
+    belongs_to_key key left old new is.input answer read (own_answer is.input answer own)
 
 -- the text of that answer
 pub reply_written : (result : Result (List ℕ) NoMemory) (key : List ℕ) (answer : Answer) → IsAnswer dpop_words (input_of key) answer → IfOk result (λ text. text ≡ answer_text answer) → IfOk result (IsReply key)
