@@ -40,7 +40,11 @@ def opening(run: dict[str, Any], count: int) -> str:
         "if another crate in the same cell uses it. \"Used by\" counts the crates that use it, directly or through others.\n\n"
         "\"Proof\" is the processor time, in seconds, for proving a crate and building its library or program. \"Tests\" is that for its tests. "
         "\"All again\" is the processor time, in minutes, for a crate and all that use it: what a change of the crate can take. A dash means that "
-        "there are no tests, or that the crate was not measured. A \"row\" of a test program is one of its tests.\n\n"
+        "there are no tests, or that the crate was not measured.\n\n"
+        "[Cells, rounds and wires](../ARCHITECTURE.md#cells-rounds-and-wires) explains cells, exchanges and dialers, "
+        "[Tree](../formats/answers.md#tree) joints and separators, [Log](../formats/report.md#log-the-certificate-of-adopt) stamps, and "
+        "[decisions](../decisions/model.md) journals. A plan says which agents are in which node. The trusted edge is code whose outside calls are "
+        "trusted; what sockets carry is not.\n\n"
         f"{run['says']}\n"
     )
 
