@@ -42,7 +42,7 @@ def opening(run: dict[str, Any], count: int) -> str:
         "\"All again\" is the processor time, in minutes, for a crate and all that use it: what a change of the crate can take. A dash means that "
         "there are no tests, or that the crate was not measured.\n\n"
         "[Cells, rounds and wires](../ARCHITECTURE.md#cells-rounds-and-wires) explains cells, exchanges and dialers, "
-        "[Tree](../formats/answers.md#tree) joints and separators, [Log](../formats/report.md#log-the-certificate-of-adopt) stamps, and "
+        "[Tree](../formats/answers.md#tree) joints and separators, [Trace](../guide/runs.md#trace) contexts, [Log](../formats/report.md#log-the-certificate-of-adopt) stamps, and "
         "[decisions](../decisions/model.md) journals. A plan says which agents are in which node. The trusted edge is code whose outside calls are "
         "trusted; what sockets carry is not.\n\n"
         f"{run['says']}\n"

@@ -1,5 +1,5 @@
-//! Tests of codes, frames, links, networks, numbered names and a log, with ample memory, and of
-//! sources and sinks that fail. The program does not make these calls.
+//! Tests of the bytes of messages and frames, of links, WCSP texts, names and a log, with ample
+//! memory, and of sources and sinks that fail. The program does not make these calls.
 #![tactic(auto)]
 
 #[cfg(test)]
