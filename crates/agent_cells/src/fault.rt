@@ -3,7 +3,6 @@
 ghost use Rattle.std.specs.Prelude.{◌≡◌};
 
 use dcop_base::NoMemory;
-use std::alloc::{AllocError, AllocFailed};
 
 /// Why a cell has failed.
 #[derive(Clone, Copy, Debug, PartialEq, Eq)]
@@ -20,26 +19,6 @@ impl From<NoMemory> for VisitFault {
     ghost from_gives = { λ _ e. e ≡ no_memory };
 
     fn from(_refused: NoMemory) -> Self {
-        VisitFault::NoMemory
-    }
-}
-
-impl From<AllocError> for VisitFault {
-    ghost use Rattle.agent_cells.specs.declared.fault.VisitFault.TheVariants.{NoMemory as no_memory};
-
-    ghost from_gives = { λ _ e. e ≡ no_memory };
-
-    fn from(_refused: AllocError) -> Self {
-        VisitFault::NoMemory
-    }
-}
-
-impl<T: Drop> From<AllocFailed<T>> for VisitFault {
-    ghost use Rattle.agent_cells.specs.declared.fault.VisitFault.TheVariants.{NoMemory as no_memory};
-
-    ghost from_gives = { λ _ e. e ≡ no_memory };
-
-    fn from(_refused: AllocFailed<T>) -> Self {
         VisitFault::NoMemory
     }
 }

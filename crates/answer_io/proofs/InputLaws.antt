@@ -1,6 +1,7 @@
 -- What follows from what was read from a source.
-use Rattle.std.proofs.Common.{◌≡◌, ℕ, ◌+◌, ◌≤◌, List, [], ◌++◌, length, Option, Some, None, Result, Ok, Err, inl, inr, refl, sym, ap, ◌∙◌, subst, append-nil, arith}
+use Rattle.std.proofs.Common.{◌≡◌, ℕ, ◌+◌, ◌<◌, ◌≤◌, List, [], ◌++◌, length, Option, Some, None, Result, Ok, Err, inl, inr, refl, sym, ap, ◌∙◌, subst, append-nil, arith}
 use Rattle.std.proofs.lemmas.List.{length-append}
+use Rattle.std.proofs.lemmas.List.Elements.{All-nil}
 use Rattle.std.specs.Io.KnownBytes.{prepend_known}
 use Rattle.dcop_base.specs.Limits.{input_limit}
 use Rattle.answer_io.specs.declared.reading.ReadEnd.{ReadEnd}
@@ -38,15 +39,21 @@ all_from : (bytes : List ℕ) (left after : Option (List ℕ)) → IsAllOf bytes
 all_from bytes None after is = sym (ap (prepend_known bytes) is)
 all_from bytes (Some left) after is = ap Some (sym is.0 ∙ sym (append-nil bytes)) ∙ sym (ap (prepend_known bytes) is.1)
 
--- whatever was read, each read but the last took at least one byte, and all together no more than an
--- input may have and one read
+-- whatever was read, each read but the last took at least one byte, all but the last no more than an
+-- input may have, and all together no more than that and one read
 pub taken-most : (input : Input) (before after : SourceState) → IsReadFrom input before after → Took 0 (input_limit + read_limit) before after
 taken-most Unread before after read = subst (λ (s : SourceState). Took 0 (input_limit + read_limit) before s) (sym read) (record {
   bytes = [];
   front = none_from before.left;
   many = omega arith;
   few = omega arith;
-  reads = omega arith;
+  reads = record {
+    counts = [];
+    made = sym (append-nil before.gave);
+    total = refl;
+    some = All-nil (λ count. 0 < count);
+    stops = omega arith;
+  };
 })
 taken-most Broken before after read = within 0 input_limit before after (omega arith) read.2
 taken-most TooLong before after read = within (input_limit + 1) (input_limit + read_limit) before after (omega arith) read.0

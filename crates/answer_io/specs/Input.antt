@@ -1,5 +1,5 @@
 -- What a call read from its source.
-use Rattle.std.specs.Prelude.{◌≡◌, ℕ, ◌+◌, ◌≤◌, List, [], length, Option, Some, None, Result, Ok, Err}
+use Rattle.std.specs.Prelude.{◌≡◌, ℕ, ◌+◌, ◌-◌, ◌<◌, ◌≤◌, List, [], ◌++◌, length, take, sum, All, Option, Some, None, Result, Ok, Err}
 use Rattle.std.specs.Io.KnownBytes.{prepend_known}
 use Rattle.dcop_edge.specs.Faults.{Rose}
 use Rattle.dcop_edge.specs.declared.fault.ReadFault.{ReadFault}
@@ -25,16 +25,17 @@ abbrev pub end_of : ReadFault → ReadEnd
 end_of faults.Failed = ends.Failed
 end_of faults.NoMemory = ends.NoMemory
 
--- the state of a source: the bytes that it has left, if they are known; its count of faults; and the
--- number of its reads
+-- the state of a source: the bytes that it has left, if they are known; its count of faults; and how
+-- many bytes each of its reads gave so far, in order
 pub record SourceState : Type 0 where
   pub left : Option (List ℕ)
   pub faults : ℕ
-  pub reads : ℕ
+  pub gave : List ℕ
 
--- the state of a source with these bytes left, this count of faults and this number of reads
-abbrev pub source_state : Option (List ℕ) → ℕ → ℕ → SourceState
-source_state left faults reads = record { left = left; faults = faults; reads = reads }
+-- the state of a source with these bytes left, this count of faults and these numbers of bytes that
+-- its reads gave
+abbrev pub source_state : Option (List ℕ) → ℕ → List ℕ → SourceState
+source_state left faults gave = record { left = left; faults = faults; gave = gave }
 
 -- if a source's bytes are known, it had exactly these left before, and has none left after; if they
 -- are unknown, they stay so
@@ -42,13 +43,22 @@ abbrev pub IsAllOf : List ℕ → Option (List ℕ) → Option (List ℕ) → Ty
 IsAllOf bytes None after = after ≡ None
 IsAllOf bytes (Some left) after = (bytes ≡ left) × (after ≡ Some [])
 
--- each read but the last took at least one of these bytes
-abbrev pub AreReadsOf : List ℕ → SourceState → SourceState → Type 0
-AreReadsOf bytes before after = after.reads ≤ before.reads + length bytes + 1
+-- all of these numbers but the last
+abbrev pub but_last : List ℕ → List ℕ
+but_last counts = take (length counts - 1) counts
+
+-- the reads made in between took these bytes: each read but the last took at least one of them, and
+-- all but the last together at most input_limit
+pub record AreReadsOf (bytes : List ℕ) (before after : SourceState) : Type 0 where
+  pub counts : List ℕ
+  pub made : after.gave ≡ before.gave ++ counts
+  pub total : sum counts ≡ length bytes
+  pub some : All (λ count. 0 < count) (but_last counts)
+  pub stops : sum (but_last counts) ≤ input_limit
 
 -- at least `least` and at most `most` bytes were taken from a source, by reads of which each but the
--- last took at least one; if its bytes are known, these were the first of them, and the others are
--- left
+-- last took at least one, and all but the last at most input_limit; if its bytes are known, these
+-- were the first of them, and the others are left
 pub record Took (least most : ℕ) (before after : SourceState) : Type 0 where
   pub bytes : List ℕ
   pub front : before.left ≡ prepend_known bytes after.left
@@ -59,7 +69,7 @@ pub record Took (least most : ℕ) (before after : SourceState) : Type 0 where
 -- what was read from a source with this state before and this state after. Of an input that is too
 -- long, more than input_limit bytes were taken, and at most read_limit above that limit. The count
 -- of faults rose if the source failed, and is otherwise as it was. Each read but the last took at
--- least one byte
+-- least one byte, and none was made once more than input_limit bytes had come
 abbrev pub IsReadFrom : Input → SourceState → SourceState → Type 0
 IsReadFrom Unread before after = after ≡ before
 IsReadFrom Broken before after =

@@ -36,7 +36,7 @@ impl From<ReadFault> for ReadEnd {
 }
 
 /// Reads all bytes that the source has left, unless they are more than [`MAX_INPUT`]. Each read but
-/// the last takes at least one byte.
+/// the last takes at least one byte, and no read is made once more than [`MAX_INPUT`] bytes came.
 ///
 /// # Errors
 ///
@@ -45,8 +45,8 @@ impl From<ReadFault> for ReadEnd {
 /// and at most 65,536 above that limit.
 pub fn read_all<S: Source>(alloc: Global, source: &mut S) -> Result<Bytes, ReadEnd>
     ensures { IsReading result
-        (source_state (S.left source.old) (S.faults source.old) (S.reads source.old))
-        (source_state (S.left source.new) (S.faults source.new) (S.reads source.new)) }
+        (source_state (S.left source.old) (S.faults source.old) (S.gave source.old))
+        (source_state (S.left source.new) (S.faults source.new) (S.gave source.new)) }
 {
     let mut bytes = Vec::new(alloc);
     while bytes.len() <= MAX_INPUT {

@@ -13,7 +13,7 @@ use crate::memory::NoMemory;
 use crate::number::VarId;
 use crate::sequence::{PairList, SizeList, TableList};
 use crate::table::Table;
-use std::alloc::{AllocError, Global};
+use std::alloc::Global;
 use std::marker::Model;
 
 /// Why sizes and tables are refused as a problem. Variables, tables and cells are counted from 0,
@@ -52,17 +52,6 @@ impl From<NoMemory> for ProblemFault {
     ghost from_gives = { λ _ e. e ≡ no_memory };
 
     fn from(_refused: NoMemory) -> Self {
-        ProblemFault::NoMemory
-    }
-}
-
-impl From<AllocError> for ProblemFault {
-    ghost use Rattle.std.specs.Prelude.{◌≡◌};
-    ghost use Rattle.dcop_base.specs.declared.problem.ProblemFault.TheVariants.{NoMemory as no_memory};
-
-    ghost from_gives = { λ _ e. e ≡ no_memory };
-
-    fn from(_refused: AllocError) -> Self {
         ProblemFault::NoMemory
     }
 }

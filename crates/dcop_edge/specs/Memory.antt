@@ -25,14 +25,15 @@ after_call calls = record {
   faults = (if fails_next calls then one_more calls.faults else calls.faults);
 }
 
--- a source in memory that never fails: the bytes that are left, and the number of its reads
+-- a source in memory that never fails: the bytes that are left, and how many bytes each of its reads gave so far
 pub record SteadyState : Type 0 where
   pub left : List ℕ
-  pub reads : ℕ
+  pub gave : List ℕ
 
--- a source in memory that fails at some calls: the bytes that are left, and its calls
+-- a source in memory that fails at some calls: the bytes that are left, how many bytes each of its reads gave so far, and its calls
 pub record GivingState : Type 0 where
   pub left : List ℕ
+  pub gave : List ℕ
   pub calls : Calls
 
 -- a sink in memory that fails at some calls: the bytes that it holds, if it kept all of them; whether it is finished; and its calls

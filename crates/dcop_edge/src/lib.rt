@@ -8,6 +8,7 @@
 //! their counts of faults.
 #![tactic(auto)]
 
+mod counts;
 mod fault;
 mod gate;
 mod kept;

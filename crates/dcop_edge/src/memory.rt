@@ -1,8 +1,8 @@
 //! A source and a sink in memory that fail at chosen calls.
 
-ghost use Rattle.std.specs.Prelude.{◌≡◌, false, true, [], Some, IfOk, OnOk, OnErr, IfSome, length, is_err};
-ghost use Rattle.dcop_edge.specs.Faults.{HasCause, one_more};
-ghost use Rattle.dcop_edge.specs.Source.{Gives};
+ghost use Rattle.std.specs.Prelude.{◌≡◌, false, true, [], ◌∷◌, ◌++◌, Some, IfOk, OnOk, OnErr, IfSome, length, is_err};
+ghost use Rattle.dcop_edge.specs.Faults.{HasCause};
+ghost use Rattle.dcop_edge.specs.Source.{Gives, count_of};
 ghost use Rattle.dcop_edge.specs.Sink.{Takes};
 ghost use Rattle.dcop_edge.specs.Memory.{GivingState, TakingState, no_calls, fails_next, after_call, kept_whole};
 
@@ -24,14 +24,14 @@ pub struct MemorySource {
 impl Model for MemorySource {
     ghost Value = { GivingState };
 
-    ghost view = { λ s. record { left = s.source.left; calls = s.calls } };
+    ghost view = { λ s. record { left = s.source.left; gave = s.source.gave; calls = s.calls } };
 }
 
 impl MemorySource {
     /// A source that gives these bytes. Its calls with the numbers in `fails`, counted from 0,
     /// fail. Allocates nothing.
     pub fn new(bytes: Vec<u8>, fails: Vec<u64>) -> Self
-        ensures { result ≡ record { left = bytes.items; calls = no_calls fails.items } }
+        ensures { result ≡ record { left = bytes.items; gave = []; calls = no_calls fails.items } }
     {
         MemorySource {
             source: SteadySource::new(bytes),
@@ -45,23 +45,29 @@ impl Source for MemorySource {
 
     ghost faults = { λ s. s.calls.faults };
 
-    ghost reads = { λ s. s.calls.came };
+    ghost gave = { λ s. s.gave };
 
     fn read(&mut self, into: &mut [u8]) -> Result<usize, Failed>
         ensures given { IfOk result (Gives (Some self.old.left) (Some self.new.left) into.old into.new) }
         ensures none_taken { OnErr result (self.new.left ≡ self.old.left) }
         ensures unfilled { OnErr result (into.new ≡ into.old) }
         ensures cause { HasCause self.old.calls.faults self.new.calls.faults result }
-        ensures counted { self.new.calls.came ≡ one_more self.old.calls.came }
+        ensures counted { self.new.gave ≡ self.old.gave ++ count_of result ∷ [] }
         ensures exact { is_err result ≡ fails_next self.old.calls }
         ensures calls { self.new.calls ≡ after_call self.old.calls }
     {
-        self.calls.come()?;
+        if let Err(failed) = self.calls.come() {
+            self.source.refuse();
+            return Err(failed);
+        }
         self.source.read(into)
     }
 
     fn read_behind(&mut self, bytes: &mut Vec<u8>, most: usize) -> Result<usize, ReadFault> {
-        self.calls.come()?;
+        if let Err(failed) = self.calls.come() {
+            self.source.refuse();
+            return Err(ReadFault::from(failed));
+        }
         self.source.read_behind(bytes, most)
     }
 }

@@ -1,8 +1,8 @@
 //! Where bytes come from.
 
-ghost use Rattle.std.specs.Prelude.{◌≡◌, ℕ, List, Option, IfOk, OnErr};
-ghost use Rattle.dcop_edge.specs.Faults.{HasCause, HasReadCause, one_more};
-ghost use Rattle.dcop_edge.specs.Source.{Gives, GivesBehind};
+ghost use Rattle.std.specs.Prelude.{◌≡◌, ℕ, List, [], ◌∷◌, ◌++◌, Option, IfOk, OnErr};
+ghost use Rattle.dcop_edge.specs.Faults.{HasCause, HasReadCause};
+ghost use Rattle.dcop_edge.specs.Source.{Gives, GivesBehind, count_of};
 
 use crate::fault::{Failed, ReadFault};
 
@@ -15,8 +15,8 @@ pub trait Source {
     /// The number of its calls that failed.
     ghost faults: { Self → ℕ };
 
-    /// The number of its reads, whatever they gave. It stops at 2^64 - 1.
-    ghost reads: { Self → ℕ };
+    /// How many bytes each of its reads gave so far, in order. A read that failed gave 0.
+    ghost gave: { Self → List ℕ };
 
     /// Puts the next bytes at the front of `into` and returns how many they are: at most its
     /// length. If `into` is not empty, 0 means the end of the input.
@@ -30,7 +30,7 @@ pub trait Source {
         ensures none_taken { OnErr result (left self.new ≡ left self.old) }
         ensures unfilled { OnErr result (into.new ≡ into.old) }
         ensures cause { HasCause (faults self.old) (faults self.new) result }
-        ensures counted { reads self.new ≡ one_more (reads self.old) };
+        ensures counted { gave self.new ≡ gave self.old ++ count_of result ∷ [] };
 
     /// Adds the next bytes to the end of `bytes` and returns how many they are: at most `most`. If
     /// `most` is not 0, 0 means the end of the input.
@@ -44,5 +44,5 @@ pub trait Source {
         ensures none_taken { OnErr result (left self.new ≡ left self.old) }
         ensures same { OnErr result (bytes.new.items ≡ bytes.old.items) }
         ensures cause { HasReadCause (faults self.old) (faults self.new) result }
-        ensures counted { reads self.new ≡ one_more (reads self.old) };
+        ensures counted { gave self.new ≡ gave self.old ++ count_of result ∷ [] };
 }

@@ -2,6 +2,7 @@
 
 ghost use Rattle.std.specs.Prelude.{◌≡◌, ◌<◌, ◌≤◌, ◌+◌, ◌++◌, None, length, take, drop, IfOk, OnErr, IfSome, MatchOption};
 
+use crate::counts::ReadCounts;
 use crate::fault::{Failed, ReadFault};
 use crate::sink::Sink;
 use crate::source::Source;
@@ -20,7 +21,7 @@ const BLOCK: usize = 65_536;
 pub struct StdSource<R> {
     reader: R,
     faults: u64,
-    reads: u64,
+    gave: ReadCounts,
 }
 
 impl<R: Read> StdSource<R> {
@@ -29,7 +30,7 @@ impl<R: Read> StdSource<R> {
         StdSource {
             reader,
             faults: 0,
-            reads: 0,
+            gave: ReadCounts::new(),
         }
     }
 }
@@ -39,19 +40,20 @@ impl<R: Read> Source for StdSource<R> {
 
     ghost faults = { λ s. s.faults };
 
-    ghost reads = { λ s. s.reads };
+    ghost gave = { λ s. s.gave.counts };
 
     // std does not say what a reader leaves in the rest of a buffer, so it gets one of its own.
     fn read(&mut self, into: &mut [u8]) -> Result<usize, Failed> {
-        self.reads = self.reads.saturating_add(1);
         let mut block = [0; BLOCK];
         let room = into.len().min(BLOCK);
         match read_again(&mut self.reader, &mut block[..room]) {
             Some(count) => {
                 into[..count].copy_from_slice(&block[..count]);
+                self.gave = self.gave.and(count);
                 Ok(count)
             }
             None => {
+                self.gave = self.gave.and(0);
                 self.faults = self.faults.saturating_add(1);
                 Err(Failed)
             }
@@ -59,12 +61,19 @@ impl<R: Read> Source for StdSource<R> {
     }
 
     fn read_behind(&mut self, bytes: &mut Vec<u8>, most: usize) -> Result<usize, ReadFault> {
-        self.reads = self.reads.saturating_add(1);
-        match append_again(&mut self.reader, bytes, most.min(BLOCK))? {
-            Some(count) => Ok(count),
-            None => {
+        match append_again(&mut self.reader, bytes, most.min(BLOCK)) {
+            Ok(Some(count)) => {
+                self.gave = self.gave.and(count);
+                Ok(count)
+            }
+            Ok(None) => {
+                self.gave = self.gave.and(0);
                 self.faults = self.faults.saturating_add(1);
                 Err(ReadFault::Failed)
+            }
+            Err(refused) => {
+                self.gave = self.gave.and(0);
+                Err(ReadFault::from(refused))
             }
         }
     }

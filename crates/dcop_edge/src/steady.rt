@@ -1,9 +1,10 @@
 //! A source and a sink in memory that never fail.
 
-ghost use Rattle.std.specs.Prelude.{◌≡◌, ◌≤◌, true, false, [], Some, IfOk, IfSome, length, take, drop, min, vec_len, vec_capacity, Ok, IsOk};
+ghost use Rattle.std.specs.Prelude.{◌≡◌, ◌≤◌, true, false, [], ◌∷◌, ◌++◌, Some, IfOk, IfSome, length, take, drop, min, vec_len, vec_capacity, Ok, IsOk};
 ghost use Rattle.dcop_edge.specs.Memory.{SteadyState, RoomState, kept_whole, held_within};
 ghost use Rattle.dcop_edge.specs.Sink.{Adds};
 
+use crate::counts::ReadCounts;
 use crate::fault::{Failed, ReadFault};
 use crate::kept::Kept;
 use crate::sink::Sink;
@@ -17,13 +18,13 @@ use std::marker::Model;
 pub struct SteadySource {
     bytes: Vec<u8>,
     given: usize,
-    reads: u64,
+    gave: ReadCounts,
 }
 
 impl Model for SteadySource {
     ghost Value = { SteadyState };
 
-    ghost view = { λ s. record { left = drop s.given s.bytes.items; reads = s.reads } };
+    ghost view = { λ s. record { left = drop s.given s.bytes.items; gave = s.gave.counts } };
 
     ghost invariant = { λ s. s.given ≤ vec_len s.bytes };
 }
@@ -31,13 +32,20 @@ impl Model for SteadySource {
 impl SteadySource {
     /// A source that gives these bytes. Allocates nothing.
     pub fn new(bytes: Vec<u8>) -> Self
-        ensures { result ≡ record { left = bytes.items; reads = 0 } }
+        ensures { result ≡ record { left = bytes.items; gave = [] } }
     {
         SteadySource {
             bytes,
             given: 0,
-            reads: 0,
+            gave: ReadCounts::new(),
         }
+    }
+
+    /// Counts one more read, which gave nothing.
+    pub(crate) fn refuse(&mut self)
+        ensures { self.new ≡ record self.old { gave = self.old.gave ++ 0 ∷ [] } }
+    {
+        self.gave = self.gave.and(0);
     }
 }
 
@@ -46,22 +54,29 @@ impl Source for SteadySource {
 
     ghost faults = { λ _. 0 };
 
-    ghost reads = { λ s. s.reads };
+    ghost gave = { λ s. s.gave };
 
     fn read(&mut self, into: &mut [u8]) -> Result<usize, Failed> {
-        self.reads = self.reads.saturating_add(1);
         let count = fill_front(into, &self.bytes[self.given..]);
         self.given += count;
+        self.gave = self.gave.and(count);
         Ok(count)
     }
 
     fn read_behind(&mut self, bytes: &mut Vec<u8>, most: usize) -> Result<usize, ReadFault> {
-        self.reads = self.reads.saturating_add(1);
         let left = &self.bytes[self.given..];
         let count = left.len().min(most);
-        bytes.extend_from_slice(&left[..count])?;
-        self.given += count;
-        Ok(count)
+        match bytes.extend_from_slice(&left[..count]) {
+            Ok(()) => {
+                self.given += count;
+                self.gave = self.gave.and(count);
+                Ok(count)
+            }
+            Err(refused) => {
+                self.refuse();
+                Err(ReadFault::from(refused))
+            }
+        }
     }
 }
 

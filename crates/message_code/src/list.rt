@@ -11,7 +11,7 @@ ghost use Rattle.message_code.specs.Reading.{Reads};
 
 use crate::number::{u32_at, u64_at};
 use crate::stop::Stop;
-use dcop_base::{CAP, CellList, MAX_JOINED_CELLS, MAX_VARIABLES, VarId, VarList};
+use dcop_base::{CAP, CellList, MAX_JOINED_CELLS, MAX_VARIABLES, NoMemory, VarId, VarList};
 use std::alloc::Global;
 
 /// A list of variables, and the bytes after it.
@@ -30,7 +30,7 @@ fn so_many_variables(alloc: Global, count: u32, bytes: &[u8]) -> Result<(Vec<Var
     ensures count { IfOk result (λ x. length x.0.items ≡ count) }
     ensures range { IfOk result (λ x. All (λ v. v < variable_limit) x.0.items) }
 {
-    let mut variables = Vec::with_capacity(alloc, count as usize)?;
+    let mut variables = Vec::with_capacity(alloc, count as usize).map_err(NoMemory::from)?;
     let mut rest = bytes;
     for _ in 0..count {
         let (variable, behind) = u32_at(rest, 0, MAX_VARIABLES as u32)?;
@@ -56,7 +56,7 @@ fn so_many_amounts(alloc: Global, count: u32, bytes: &[u8]) -> Result<(Vec<u64>,
     ensures count { IfOk result (λ x. length x.0.items ≡ count) }
     ensures range { IfOk result (λ x. All (λ c. c ≤ amount_limit) x.0.items) }
 {
-    let mut amounts = Vec::with_capacity(alloc, count as usize)?;
+    let mut amounts = Vec::with_capacity(alloc, count as usize).map_err(NoMemory::from)?;
     let mut rest = bytes;
     for _ in 0..count {
         let (amount, behind) = u64_at(rest, CAP + 1)?;

@@ -4,7 +4,6 @@ ghost use Rattle.std.specs.Prelude.{◌≡◌};
 ghost use Rattle.message_code.specs.declared.stop.Stop.TheVariants.{NoMemory as no_memory};
 
 use dcop_base::NoMemory;
-use std::alloc::{AllocError, AllocFailed};
 
 /// Why a part of a code cannot be read.
 #[derive(Clone, Copy, Debug)]
@@ -19,22 +18,6 @@ impl From<NoMemory> for Stop {
     ghost from_gives = { λ _ e. e ≡ no_memory };
 
     fn from(_refused: NoMemory) -> Self {
-        Stop::NoMemory
-    }
-}
-
-impl From<AllocError> for Stop {
-    ghost from_gives = { λ _ e. e ≡ no_memory };
-
-    fn from(_refused: AllocError) -> Self {
-        Stop::NoMemory
-    }
-}
-
-impl<T: Drop> From<AllocFailed<T>> for Stop {
-    ghost from_gives = { λ _ e. e ≡ no_memory };
-
-    fn from(_refused: AllocFailed<T>) -> Self {
         Stop::NoMemory
     }
 }

@@ -33,13 +33,13 @@ pub fn question_of<A: Copy, S: Source>(
     source: &mut S,
 ) -> Result<Question<A>, NoMemory>
     ensures asked { IfOk result (IsQuestion asked
-        (source_state (S.left source.old) (S.faults source.old) (S.reads source.old))
-        (source_state (S.left source.new) (S.faults source.new) (S.reads source.new))) }
+        (source_state (S.left source.old) (S.faults source.old) (S.gave source.old))
+        (source_state (S.left source.new) (S.faults source.new) (S.gave source.new))) }
     ensures told { IfOk result IsPlain }
     ensures quiet { OnErr result (S.faults source.new ≡ S.faults source.old) }
     ensures taken { Took 0 (input_limit + read_limit)
-        (source_state (S.left source.old) (S.faults source.old) (S.reads source.old))
-        (source_state (S.left source.new) (S.faults source.new) (S.reads source.new)) }
+        (source_state (S.left source.old) (S.faults source.old) (S.gave source.old))
+        (source_state (S.left source.new) (S.faults source.new) (S.gave source.new)) }
 {
     let asked = match asked {
         Ok(asked) => asked,

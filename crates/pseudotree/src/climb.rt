@@ -24,12 +24,12 @@ pub(crate) fn paths_of(alloc: Global, parents: &[Option<VarId>]) -> Result<Vec<V
     ensures paths { IfOk result (λ paths. ArePaths parents.now paths.items) }
     ensures fault { IfErr result (IsLoopFault parents.now) }
 {
-    let mut paths = Vec::with_capacity(alloc, parents.len())?;
+    let mut paths = Vec::with_capacity(alloc, parents.len()).map_err(NoMemory::from)?;
     let mut climb = Vec::new(alloc);
     for index in 0..parents.len() {
         let var = VarId(index as u32);
         match path_to(alloc, parents, paths.as_slice(), &mut climb, var)? {
-            Some(path) => paths.push(path)?,
+            Some(path) => paths.push(path).map_err(NoMemory::from)?,
             None => return Err(TreeFault::Loop { var }),
         }
     }

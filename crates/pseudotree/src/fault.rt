@@ -1,7 +1,6 @@
 //! Why parents are refused.
 
 use dcop_base::{NoMemory, VarId};
-use std::alloc::{AllocError, AllocFailed};
 
 /// Why parents do not form a pseudotree of a problem.
 #[derive(Clone, Copy, Debug, PartialEq, Eq)]
@@ -24,28 +23,6 @@ impl From<NoMemory> for TreeFault {
     ghost from_gives = { λ _ e. e ≡ no_memory };
 
     fn from(_refused: NoMemory) -> Self {
-        TreeFault::NoMemory
-    }
-}
-
-impl From<AllocError> for TreeFault {
-    ghost use Rattle.std.specs.Prelude.{◌≡◌};
-    ghost use Rattle.pseudotree.specs.declared.fault.TreeFault.TheVariants.{NoMemory as no_memory};
-
-    ghost from_gives = { λ _ e. e ≡ no_memory };
-
-    fn from(_refused: AllocError) -> Self {
-        TreeFault::NoMemory
-    }
-}
-
-impl<T: Drop> From<AllocFailed<T>> for TreeFault {
-    ghost use Rattle.std.specs.Prelude.{◌≡◌};
-    ghost use Rattle.pseudotree.specs.declared.fault.TreeFault.TheVariants.{NoMemory as no_memory};
-
-    ghost from_gives = { λ _ e. e ≡ no_memory };
-
-    fn from(_refused: AllocFailed<T>) -> Self {
         TreeFault::NoMemory
     }
 }

@@ -35,15 +35,15 @@ pub fn search<S: Source, K: Sink>(
     sink: &mut K,
 ) -> Status
     ensures works { Works search_program (map string_bytes words.now)
-        (source_state (S.left source.old) (S.faults source.old) (S.reads source.old))
-        (source_state (S.left source.new) (S.faults source.new) (S.reads source.new))
+        (source_state (S.left source.old) (S.faults source.old) (S.gave source.old))
+        (source_state (S.left source.new) (S.faults source.new) (S.gave source.new))
         (sink_state (K.held sink.old) (K.finished sink.old))
         (sink_state (K.held sink.new) (K.finished sink.new))
         (K.faults sink.old) (K.faults sink.new) result }
     ensures unwritten { result ≡ Status.NoMemory → sink.new ≡ sink.old }
     ensures taken { Took 0 (input_limit + read_limit)
-        (source_state (S.left source.old) (S.faults source.old) (S.reads source.old))
-        (source_state (S.left source.new) (S.faults source.new) (S.reads source.new)) }
+        (source_state (S.left source.old) (S.faults source.old) (S.gave source.old))
+        (source_state (S.left source.new) (S.faults source.new) (S.gave source.new)) }
 {
     match reply_to(alloc, words, source) {
         Ok(reply) => show_reply(alloc, &reply, sink),

@@ -41,7 +41,7 @@ never_rose (inr last) = omega (arith, last)
 
 -- what a call reads from a source that never fails and has a key left has the same answer of DPOP
 -- as the key's input
-belongs_so : (key : List ℕ) (left : Option (List ℕ)) (old new : ℕ) (input : Input) (answer : Answer) → IsReadFrom input (source_state (Some key) 0 old) (source_state left 0 new)
+belongs_so : (key : List ℕ) (left : Option (List ℕ)) (old new : List ℕ) (input : Input) (answer : Answer) → IsReadFrom input (source_state (Some key) 0 old) (source_state left 0 new)
     → IsInputAnswer (File Own (tasks.Dpop false)) input answer → IsInputAnswer (File Own (tasks.Dpop false)) (input_of key) answer
 belongs_so key left old new Unread answer read belongs = absurd belongs
 belongs_so key left old new Broken answer read belongs = absurd (never_rose read.0)
@@ -53,12 +53,12 @@ belongs_so key left old new (Whole bytes) answer read belongs =
     let short : length key ≤ input_limit = subst (λ (bs : List ℕ). length bs ≤ input_limit) same read.0 in
     subst (λ (i : Input). IsInputAnswer (File Own (tasks.Dpop false)) i answer) (ap Whole same ∙ sym (whole_input key short)) belongs
 
-belongs_to_key : (key : List ℕ) (left : Option (List ℕ)) (old new : ℕ) (input : Input) (answer : Answer) → IsReadFrom input (source_state (Some key) 0 old) (source_state left 0 new)
+belongs_to_key : (key : List ℕ) (left : Option (List ℕ)) (old new : List ℕ) (input : Input) (answer : Answer) → IsReadFrom input (source_state (Some key) 0 old) (source_state left 0 new)
     → IsAnswer dpop_words input answer → IsAnswer dpop_words (input_of key) answer
 belongs_to_key key left old new input answer read belongs = to_words (input_of key) answer (belongs_so key left old new input answer read (of_words input answer belongs))
 
 -- what `solve` answers on a source that never fails and has a key left
-pub answered_so : (key given : List ℕ) (words : List (List ℕ)) (left : Option (List ℕ)) (old new : ℕ) (answer : Answer) → given ≡ key → words ≡ dpop_words
+pub answered_so : (key given : List ℕ) (words : List (List ℕ)) (left : Option (List ℕ)) (old new : List ℕ) (answer : Answer) → given ≡ key → words ≡ dpop_words
     → Answered words (source_state (Some given) 0 old) (source_state left 0 new) answer → IsAnswer dpop_words (input_of key) answer
 answered_so key given words left old new answer is_key is_dpop is =
     let read = subst (λ (k : List ℕ). IsReadFrom is.input (source_state (Some k) 0 old) (source_state left 0 new)) is_key is.read in

@@ -58,14 +58,14 @@ where
     G: Gate,
     D: Dialer,
     ensures answered { IfOk result (Answered (map string_bytes words.now)
-        (source_state (S.left source.old) (S.faults source.old) (S.reads source.old))
-        (source_state (S.left source.new) (S.faults source.new) (S.reads source.new))) }
+        (source_state (S.left source.old) (S.faults source.old) (S.gave source.old))
+        (source_state (S.left source.new) (S.faults source.new) (S.gave source.new))) }
     ensures told { IfOk result HasText }
     ensures links { TellsLinks (AskForNodes (map string_bytes words.now)) (D.is_honest dialer.old) (D.faults dialer.old) (D.faults dialer.new) result }
     ensures quiet { OnErr result (S.faults source.new ≡ S.faults source.old) }
     ensures taken { Took 0 (input_limit + read_limit)
-        (source_state (S.left source.old) (S.faults source.old) (S.reads source.old))
-        (source_state (S.left source.new) (S.faults source.new) (S.reads source.new)) }
+        (source_state (S.left source.old) (S.faults source.old) (S.gave source.old))
+        (source_state (S.left source.new) (S.faults source.new) (S.gave source.new)) }
 {
     let command = match read_words(alloc, words) {
         Ok(command) => command,

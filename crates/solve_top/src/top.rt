@@ -88,14 +88,14 @@ pub fn solve<
         AskForNodes (map string_bytes words.now) × (¬ D.is_honest dialer.old) }
     ensures answered { result ≢ Status.NoMemory → Solves (map string_bytes words.now)
         (D.is_honest dialer.old) (D.faults dialer.old) (D.faults dialer.new)
-        (source_state (S.left source.old) (S.faults source.old) (S.reads source.old))
-        (source_state (S.left source.new) (S.faults source.new) (S.reads source.new))
+        (source_state (S.left source.old) (S.faults source.old) (S.gave source.old))
+        (source_state (S.left source.new) (S.faults source.new) (S.gave source.new))
         (sink_state (K.held sink.old) (K.finished sink.old))
         (sink_state (K.held sink.new) (K.finished sink.new)) result }
     ensures unwritten { result ≡ Status.NoMemory → sink.new ≡ sink.old }
     ensures taken { Took 0 (input_limit + read_limit)
-        (source_state (S.left source.old) (S.faults source.old) (S.reads source.old))
-        (source_state (S.left source.new) (S.faults source.new) (S.reads source.new)) }
+        (source_state (S.left source.old) (S.faults source.old) (S.gave source.old))
+        (source_state (S.left source.new) (S.faults source.new) (S.gave source.new)) }
     ensures source_failed { StaysUnless (S.faults source.old) (S.faults source.new)
         ((result ≡ Status.ReadFault) ⊎ (result ≡ Status.WriteFault) ⊎ (result ≡ Status.NoMemory)) }
     ensures sink_failed { StaysUnless (K.faults sink.old) (K.faults sink.new)

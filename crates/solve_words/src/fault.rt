@@ -4,8 +4,7 @@ ghost use Rattle.std.specs.Prelude.{◌≡◌};
 ghost use Rattle.solve_words.specs.Kinds.{number_of_words};
 ghost use Rattle.solve_words.specs.declared.fault.WordFault.TheVariants.{NoMemory as no_memory};
 
-use dcop_base::NoMemory;
-use std::alloc::{AllocError, AllocFailed};
+use std::alloc::AllocFailed;
 use thiserror::Error;
 
 /// What is wrong with a word. The number of a kind is its discriminant, from 1 on.
@@ -63,22 +62,6 @@ pub enum WordFault {
     /// Memory ran out. No clause says when this happens.
     #[error("out of memory")]
     NoMemory,
-}
-
-impl From<NoMemory> for WordFault {
-    ghost from_gives = { λ _ e. e ≡ no_memory };
-
-    fn from(_refused: NoMemory) -> Self {
-        WordFault::NoMemory
-    }
-}
-
-impl From<AllocError> for WordFault {
-    ghost from_gives = { λ _ e. e ≡ no_memory };
-
-    fn from(_refused: AllocError) -> Self {
-        WordFault::NoMemory
-    }
 }
 
 impl<T: Drop> From<AllocFailed<T>> for WordFault {

@@ -41,13 +41,13 @@ pub(crate) fn reply_to<S: Source>(
     source: &mut S,
 ) -> Result<Reply, NoMemory>
     ensures replied { IfOk result (IsReplied trace_program (map string_bytes words.now)
-        (source_state (S.left source.old) (S.faults source.old) (S.reads source.old))
-        (source_state (S.left source.new) (S.faults source.new) (S.reads source.new))) }
+        (source_state (S.left source.old) (S.faults source.old) (S.gave source.old))
+        (source_state (S.left source.new) (S.faults source.new) (S.gave source.new))) }
     ensures told { IfOk result IsShowable }
     ensures quiet { OnErr result (S.faults source.new ≡ S.faults source.old) }
     ensures taken { Took 0 (input_limit + read_limit)
-        (source_state (S.left source.old) (S.faults source.old) (S.reads source.old))
-        (source_state (S.left source.new) (S.faults source.new) (S.reads source.new)) }
+        (source_state (S.left source.old) (S.faults source.old) (S.gave source.old))
+        (source_state (S.left source.new) (S.faults source.new) (S.gave source.new)) }
 {
     match question_of(alloc, read_trace_words(words), source)? {
         Question::Text { asked, bytes } => text_reply(alloc, asked, bytes.as_slice()),

@@ -4,7 +4,6 @@ ghost use Rattle.std.specs.Prelude.{◌≡◌, length};
 ghost use Rattle.problem_text.specs.declared.line_end.LineEnd.TheVariants as ends;
 ghost use Rattle.wcsp_text.specs.Kinds.{number_of_kind, number_of_problem};
 
-use dcop_base::NoMemory;
 use problem_text::LineEnd;
 use thiserror::Error;
 
@@ -17,17 +16,6 @@ pub enum WcspFault {
     /// Memory ran out.
     #[error("out of memory")]
     NoMemory,
-}
-
-impl From<NoMemory> for WcspFault {
-    ghost use Rattle.std.specs.Prelude.{◌≡◌};
-    ghost use Rattle.wcsp_text.specs.declared.fault.WcspFault.TheVariants.{NoMemory as no_memory};
-
-    ghost from_gives = { λ _ e. e ≡ no_memory };
-
-    fn from(_refused: NoMemory) -> Self {
-        WcspFault::NoMemory
-    }
 }
 
 /// What is wrong with a word of a WCSP text, or with the text. Kind 6 is not used.

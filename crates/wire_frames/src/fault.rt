@@ -4,7 +4,6 @@ ghost use Rattle.std.specs.Prelude.{◌≡◌};
 ghost use Rattle.wire_frames.specs.declared.fault.FrameFault.TheVariants.{NoMemory as no_memory};
 
 use dcop_base::NoMemory;
-use std::alloc::{AllocError, AllocFailed};
 
 /// Why a reader takes no more of a stream, or not this piece of it.
 #[derive(Clone, Copy, Debug, PartialEq, Eq)]
@@ -23,22 +22,6 @@ impl From<NoMemory> for FrameFault {
     ghost from_gives = { λ _ e. e ≡ no_memory };
 
     fn from(_refused: NoMemory) -> Self {
-        FrameFault::NoMemory
-    }
-}
-
-impl From<AllocError> for FrameFault {
-    ghost from_gives = { λ _ e. e ≡ no_memory };
-
-    fn from(_refused: AllocError) -> Self {
-        FrameFault::NoMemory
-    }
-}
-
-impl<T: Drop> From<AllocFailed<T>> for FrameFault {
-    ghost from_gives = { λ _ e. e ≡ no_memory };
-
-    fn from(_refused: AllocFailed<T>) -> Self {
         FrameFault::NoMemory
     }
 }

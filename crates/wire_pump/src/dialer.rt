@@ -7,7 +7,7 @@ ghost use Rattle.wire_pump.specs.Dialer.{HasDialCause, IsNew, TellsNothing};
 use crate::wire::Wire;
 use dcop_base::NoMemory;
 use futures::Future;
-use std::alloc::{AllocError, AllocFailed, AllocGlobal, Global};
+use std::alloc::{AllocFailed, AllocGlobal, Global};
 use std::net::Net;
 use std::random::RandomSource;
 use std::sync::Wait;
@@ -29,16 +29,6 @@ impl From<NoMemory> for DialFault {
     ghost from_gives = { λ _ e. e ≡ no_memory };
 
     fn from(_refused: NoMemory) -> Self {
-        DialFault::NoMemory
-    }
-}
-
-impl From<AllocError> for DialFault {
-    ghost use Rattle.wire_pump.specs.declared.dialer.DialFault.TheVariants.{NoMemory as no_memory};
-
-    ghost from_gives = { λ _ e. e ≡ no_memory };
-
-    fn from(_refused: AllocError) -> Self {
         DialFault::NoMemory
     }
 }

@@ -4,8 +4,8 @@ use Rattle.dcop_edge.specs.Memory.{SteadyState}
 use Rattle.dcop_edge.proofs.GivesLaws.{Gives-behind}
 use Rattle.dcop_edge.proofs.steady.SteadySourceSource.read_behind.Goals as goal
 
-pub returns-clause-given : goal.returns-clause-given
-returns-clause-given c =
+pub returns-in-Ok-clause-given : goal.returns-in-Ok-clause-given
+returns-in-Ok-clause-given c =
     let bytes = c.self.inside.bytes.items in
     let given = c.self.inside.given in
     let view : drop given bytes ≡ c.args.self.now.left = ap (λ (s : SteadyState). s.left) c.self.view_is in
@@ -17,5 +17,5 @@ returns-clause-given c =
     sym (drop-drop count given bytes) ∙ ap (drop count) view in
     Gives-behind c.args.self.now.left (drop (given + count) bytes) held c.extend_from_slice.new.self.items c.args.most count
     (c.min-count.ensures ∙ ap (λ (l : List ℕ). min (length l) c.args.most) slice)
-    (c.in_ok-extend_from_slice.ensures.items ∙ ap (λ (l : List ℕ). held ++ take count l) slice)
+    (c.in-Ok.ensures.items ∙ ap (λ (l : List ℕ). held ++ take count l) slice)
     rest
