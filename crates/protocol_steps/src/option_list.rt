@@ -1,6 +1,6 @@
 //! Lists whose items may be missing.
 
-ghost use Rattle.std.specs.Prelude.{◌≡◌, ◌<◌, [], ◌∷◌, ◌++◌, length, get_or, if◌then◌else◌, is_ok, MatchOption, OnOk, Some, None};
+ghost use Rattle.std.specs.Prelude.{◌≡◌, ◌<◌, [], ◌∷◌, ◌++◌, length, get_or, if◌then◌else◌, is_ok, MatchOption, OnOk, OnErr, Some, None};
 
 use dcop_base::NoMemory;
 use std::alloc::Global;
@@ -65,10 +65,11 @@ impl<T: Drop> OptionList<T> {
     ///
     /// # Errors
     ///
-    /// [`NoMemory`] if memory runs out.
+    /// [`NoMemory`] if memory runs out. The list is then as it was.
     pub fn push(&mut self, item: Option<T>) -> Result<(), NoMemory>
         requires { length self.old < usize.MAX }
-        ensures { OnOk result (self.new ≡ self.old ++ item ∷ []) }
+        ensures ok { OnOk result (self.new ≡ self.old ++ item ∷ []) }
+        ensures err { OnErr result (self.new ≡ self.old) }
     {
         if item.is_some() || !self.kept.is_empty() {
             let room = self.room;

@@ -1,6 +1,7 @@
 //! Where a list holds its items.
 
-ghost use Rattle.std.specs.Prelude.{◌≡◌, ◌≤◌, length, IfOk};
+ghost use Rattle.std.specs.Prelude.{◌≡◌, ◌≤◌, length, IfOk, OnOk};
+ghost use Rattle.short_lists.specs.Items.{items_in, HasRoom};
 
 use arrayvec::ArrayVec;
 use std::alloc::{AllocError, Global};
@@ -40,4 +41,24 @@ pub(crate) fn own_of<T: Copy>(alloc: Global, items: &[T], room: usize) -> Result
     let mut own = Vec::with_capacity(alloc, items.len().saturating_add(room))?;
     own.extend_from_slice(items)?;
     Ok(own)
+}
+
+/// Moves the items into memory of their own, with room for more, if they are shared or if the list
+/// holds [`FEW`] of them in itself.
+pub(crate) fn make_room<T: MadeWith<Global> + Copy>(items: &mut Items<T>) -> Result<(), AllocError>
+    ensures same { items_in items.new ≡ items_in items.old }
+    ensures room { OnOk result (HasRoom FEW items.new) }
+{
+    let own = match &*items {
+        Items::Few(few) => {
+            if few.len() < FEW {
+                return Ok(());
+            }
+            own_of(*few.allocator(), few.as_slice(), FEW)?
+        }
+        Items::Own(_) => return Ok(()),
+        Items::Shared(shared) => own_of(*shared.allocator(), shared.as_slice(), FEW)?,
+    };
+    *items = Items::Own(own);
+    Ok(())
 }

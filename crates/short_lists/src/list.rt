@@ -1,12 +1,12 @@
 //! The list.
 
-ghost use Rattle.std.specs.Prelude.{◌≡◌, ◌≤◌, ◌++◌, [], ◌∷◌, length, IfOk, OnOk};
+ghost use Rattle.std.specs.Prelude.{◌≡◌, ◌≤◌, ◌++◌, [], ◌∷◌, length, IfOk, OnOk, OnErr};
 ghost use Rattle.std.specs.List.{insert};
 ghost use Rattle.std.specs.Cmp.Lexicographic.{pointwise, lists_per, lists_equiv};
 ghost use Rattle.std.specs.Hash as fed;
 ghost use Rattle.std.specs.Hash.{items_Alike};
 
-use crate::items::{FEW, Items, few_of, own_of};
+use crate::items::{FEW, Items, few_of, make_room, own_of};
 use arrayvec::ArrayVec;
 use std::alloc::{AllocError, Global};
 use std::default::MadeWith;
@@ -108,26 +108,17 @@ impl<T: MadeWith<Global> + Copy> ShortList<T> {
     ///
     /// # Errors
     ///
-    /// [`AllocError`] if memory runs out.
+    /// [`AllocError`] if memory runs out. The list is then as it was.
     pub fn push(&mut self, item: T) -> Result<(), AllocError>
-        ensures { OnOk result (self.new ≡ self.old ++ item ∷ []) }
+        ensures ok { OnOk result (self.new ≡ self.old ++ item ∷ []) }
+        ensures err { OnErr result (self.new ≡ self.old) }
     {
+        make_room(&mut self.items)?;
         match &mut self.items {
-            Items::Few(items) => {
-                if items.len() < FEW {
-                    items.push(item);
-                    return Ok(());
-                }
-                let mut own = own_of(*items.allocator(), items.as_slice(), FEW)?;
-                own.push(item)?;
-                self.items = Items::Own(own);
-            }
+            Items::Few(items) => items.push(item),
             Items::Own(items) => items.push(item)?,
-            Items::Shared(items) => {
-                let mut own = own_of(*items.allocator(), items.as_slice(), FEW)?;
-                own.push(item)?;
-                self.items = Items::Own(own);
-            }
+            // Not reached: what is shared has no room.
+            Items::Shared(_) => {}
         }
         Ok(())
     }
@@ -136,27 +127,18 @@ impl<T: MadeWith<Global> + Copy> ShortList<T> {
     ///
     /// # Errors
     ///
-    /// [`AllocError`] if memory runs out.
+    /// [`AllocError`] if memory runs out. The list is then as it was.
     pub fn insert(&mut self, place: usize, item: T) -> Result<(), AllocError>
         requires { place ≤ length self.old }
-        ensures { OnOk result (self.new ≡ insert self.old place item) }
+        ensures ok { OnOk result (self.new ≡ insert self.old place item) }
+        ensures err { OnErr result (self.new ≡ self.old) }
     {
+        make_room(&mut self.items)?;
         match &mut self.items {
-            Items::Few(items) => {
-                if items.len() < FEW {
-                    items.insert(place, item);
-                    return Ok(());
-                }
-                let mut own = own_of(*items.allocator(), items.as_slice(), FEW)?;
-                own.insert(place, item)?;
-                self.items = Items::Own(own);
-            }
+            Items::Few(items) => items.insert(place, item),
             Items::Own(items) => items.insert(place, item)?,
-            Items::Shared(items) => {
-                let mut own = own_of(*items.allocator(), items.as_slice(), FEW)?;
-                own.insert(place, item)?;
-                self.items = Items::Own(own);
-            }
+            // Not reached: what is shared has no room.
+            Items::Shared(_) => {}
         }
         Ok(())
     }

@@ -20,7 +20,7 @@ loop-index-preserved c =
             filter_keeps (is_marked_lower c.args.paths.now c.args.marks.now c.args.var) c.in-Some.index c.loop-index.lower c.if-is_above.lower before
             (and_from (mark_at (length c.args.paths.now) c.args.marks.now c.args.var c.in-Some.index) (is_above c.args.paths.now c.args.var c.in-Some.index) next.marked
             (sym c.is_above.ensures ∙ w.if-is_above.true))
-            (w.lower-is ∙ w.in_ok-push.ensures)
+            (w.lower-is ∙ w.in_ok-push.ensures.ok)
         | else-is_above w ↦
             filter_skips (is_marked_lower c.args.paths.now c.args.marks.now c.args.var) c.in-Some.index c.loop-index.lower c.if-is_above.lower before
             (and_right (mark_at (length c.args.paths.now) c.args.marks.now c.args.var c.in-Some.index) (is_above c.args.paths.now c.args.var c.in-Some.index)
