@@ -39,8 +39,8 @@ all_from : (bytes : List ℕ) (left after : Option (List ℕ)) → IsAllOf bytes
 all_from bytes None after is = sym (ap (prepend_known bytes) is)
 all_from bytes (Some left) after is = ap Some (sym is.0 ∙ sym (append-nil bytes)) ∙ sym (ap (prepend_known bytes) is.1)
 
--- whatever was read, each read but the last took at least one byte, all but the last no more than an
--- input may have, and all together no more than that and one read
+-- whatever was read, each read but the last took at least one byte, all but the last together no more
+-- than an input may have, and all together no more than that and one read
 pub taken-most : (input : Input) (before after : SourceState) → IsReadFrom input before after → Took 0 (input_limit + read_limit) before after
 taken-most Unread before after read = subst (λ (s : SourceState). Took 0 (input_limit + read_limit) before s) (sym read) (record {
   bytes = [];

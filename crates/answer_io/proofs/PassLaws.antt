@@ -17,7 +17,7 @@ pub record WriteDone (before now : Option (List ℕ)) (old new : ℕ) (text : Li
   pub count : new ≡ old
 
 -- these bytes are read, at most those of one read above input_limit, no call failed, each read took
--- at least one byte, and all but the last took at most input_limit
+-- at least one byte, and all but the last together took at most input_limit
 pub record ReadDone (before now : SourceState) (bytes : List ℕ) : Type 0 where
   pub front : before.left ≡ prepend_known bytes now.left
   pub count : now.faults ≡ before.faults

@@ -47,8 +47,9 @@ IsAllOf bytes (Some left) after = (bytes ≡ left) × (after ≡ Some [])
 abbrev pub but_last : List ℕ → List ℕ
 but_last counts = take (length counts - 1) counts
 
--- the reads made in between took these bytes: each read but the last took at least one of them, and
--- all but the last together at most input_limit
+-- the reads made in between took these bytes. Each read but the last took at least one of them, and
+-- reading stopped with the first read that took the total above input_limit: all but the last took
+-- no more than that together
 pub record AreReadsOf (bytes : List ℕ) (before after : SourceState) : Type 0 where
   pub counts : List ℕ
   pub made : after.gave ≡ before.gave ++ counts
@@ -56,9 +57,9 @@ pub record AreReadsOf (bytes : List ℕ) (before after : SourceState) : Type 0 w
   pub some : All (λ count. 0 < count) (but_last counts)
   pub stops : sum (but_last counts) ≤ input_limit
 
--- at least `least` and at most `most` bytes were taken from a source, by reads of which each but the
--- last took at least one, and all but the last at most input_limit; if its bytes are known, these
--- were the first of them, and the others are left
+-- at least `least` and at most `most` bytes were taken from a source. Each read but the last took at
+-- least one, and reading stopped with the first read that took the total above input_limit. If the
+-- source's bytes are known, these were the first of them, and the others are left
 pub record Took (least most : ℕ) (before after : SourceState) : Type 0 where
   pub bytes : List ℕ
   pub front : before.left ≡ prepend_known bytes after.left
@@ -69,7 +70,7 @@ pub record Took (least most : ℕ) (before after : SourceState) : Type 0 where
 -- what was read from a source with this state before and this state after. Of an input that is too
 -- long, more than input_limit bytes were taken, and at most read_limit above that limit. The count
 -- of faults rose if the source failed, and is otherwise as it was. Each read but the last took at
--- least one byte, and none was made once more than input_limit bytes had come
+-- least one byte, and reading stopped with the first read that took the total above input_limit
 abbrev pub IsReadFrom : Input → SourceState → SourceState → Type 0
 IsReadFrom Unread before after = after ≡ before
 IsReadFrom Broken before after =

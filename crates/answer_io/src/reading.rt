@@ -36,7 +36,8 @@ impl From<ReadFault> for ReadEnd {
 }
 
 /// Reads all bytes that the source has left, unless they are more than [`MAX_INPUT`]. Each read but
-/// the last takes at least one byte, and no read is made once more than [`MAX_INPUT`] bytes came.
+/// the last takes at least one byte, and reading stops with the first read that takes the total
+/// above [`MAX_INPUT`].
 ///
 /// # Errors
 ///

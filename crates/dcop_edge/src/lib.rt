@@ -4,8 +4,8 @@
 //! if that is known, and counts its faults: a call returns [`Failed`] only if the count rose or is
 //! at its last value. Code that reads and writes is therefore proved over any source and sink.
 //! There are sources and sinks in memory that fail at chosen calls, and others that never fail.
-//! [`StdSource`] and [`StdSink`] are the real ones; contracts say nothing of their bytes, only of
-//! their counts of faults.
+//! [`StdSource`] and [`StdSink`] are the real ones. Contracts say nothing of their bytes, only how
+//! many each read gave, whether the sink is finished, and their counts of faults.
 #![tactic(auto)]
 
 mod counts;

@@ -16,7 +16,8 @@ use std::alloc::Global;
 /// Answers these words, which are the arguments of the program: reads a problem from the source,
 /// writes it to the sink in an order that makes its depth-first tree narrower, or as it is, and
 /// gives the status. Words, texts and faults are refused as by the program `dcop`. At most
-/// 2^28 + 65,536 bytes are taken, and each read but the last takes at least one.
+/// 2^28 + 65,536 bytes are taken. Each read but the last takes at least one, and reading stops with
+/// the first read that takes the total above 2^28.
 ///
 /// [`Status::ReadFault`] and [`Status::WriteFault`] come only if the source or the sink failed in
 /// this call. With `WriteFault` a prefix of the answer is written. With [`Status::NoMemory`], when

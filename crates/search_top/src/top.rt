@@ -16,7 +16,8 @@ use std::alloc::Global;
 /// Answers these words, which are the arguments of the program. It reads a problem from the source,
 /// searches it for an assignment with the best sum, writes the report of this to the sink, and
 /// returns the status. Words, texts and faults are refused as the program `dcop` refuses them. At
-/// most 2^28 + 65,536 bytes are taken, and each read but the last takes at least one.
+/// most 2^28 + 65,536 bytes are taken. Each read but the last takes at least one, and reading stops
+/// with the first read that takes the total above 2^28.
 ///
 /// The report is a [`SearchReport`](crate::SearchReport): an assignment with its sum in the file's
 /// own tables, and a bound; no assignment's sum is better than the bound. With [`Status::Solved`]

@@ -26,8 +26,9 @@ use wire_pump::Dialer;
 /// writes the answer to the sink, and gives the status.
 ///
 /// The words are tested before anything is read, and the whole answer is built before anything is
-/// written. Refusals are written to the sink too. At most 2^28 + 65,536 bytes are taken, and each
-/// read but the last takes at least one.
+/// written. Refusals are written to the sink too. At most 2^28 + 65,536 bytes are taken. Each read
+/// but the last takes at least one, and reading stops with the first read that takes the total
+/// above 2^28.
 ///
 /// `solve` reads a problem and reports an assignment:
 ///

@@ -18,7 +18,8 @@ use std::alloc::Global;
 /// on its depth-first tree, writes the trace of that run to the sink, and gives the status.
 ///
 /// Words, texts and faults are refused as by the program `dcop`, and so is an event that cannot
-/// happen. At most 2^28 + 65,536 bytes are taken, and each read but the last takes at least one.
+/// happen. At most 2^28 + 65,536 bytes are taken. Each read but the last takes at least one, and
+/// reading stops with the first read that takes the total above 2^28.
 ///
 /// A trace has each agent at its start, and the agent of each event that is asked for: what it
 /// took, the state it reached and what it sent. Stamps are written as the log has them, but not
