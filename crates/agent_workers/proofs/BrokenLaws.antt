@@ -24,11 +24,13 @@ use Rattle.worker_laws.proofs.EachLaws.{each_long, each_back, each_on, there}
 use Rattle.worker_laws.proofs.VisitLaws.{later_then}
 use Rattle.worker_laws.proofs.CellStampLaws.{cell_stamps_are_few}
 use Rattle.agent_cells.specs.declared.cell.Cell.{Cell}
+use Rattle.agent_cells.specs.declared.fault.VisitFault.{VisitFault}
 use Rattle.agent_cells.specs.declared.fault.VisitFault.TheVariants.{StampEnd}
+use Rattle.agent_cells.specs.Failed.{HasReachedEnd}
 use Rattle.agent_cells.specs.State.{state_of}
 use Rattle.agent_workers.specs.Joined.{states_of, AreCellsJoined}
 use Rattle.agent_workers.specs.Turns.{sprint_limit, SomeFailed}
-use Rattle.agent_workers.specs.Broken.{HasGoneOn, StandsOrEnds, HaveBrokenOff}
+use Rattle.agent_workers.specs.Broken.{HasGoneOn, HasFailedVisit, StandsOrFails, HaveBrokenOff}
 
 -- relations at each place of lists
 pub each_then : {X Y Z : Type 0} (R : X → Y → Type 0) (S : Y → Z → Type 0) (T : X → Z → Type 0) → ((x : X) (y : Y) (z : Z) → R x y → S y z → T x z)
@@ -39,6 +41,12 @@ each_then R S T on [] (y ∷ ys) zs r s = absurd r
 each_then R S T on (x ∷ xs) [] zs r s = absurd r
 each_then R S T on (x ∷ xs) (y ∷ ys) [] r s = absurd s
 each_then R S T on (x ∷ xs) (y ∷ ys) (z ∷ zs) r s = (on x y z r.0 s.0, each_then R S T on xs ys zs r.1 s.1)
+
+pub each_on_to : {X Y : Type 0} (R S : X → Y → Type 0) → ((x : X) (y : Y) → R x y → S x y) → (xs : List X) (ys : List Y) → EachAre R xs ys → EachAre S xs ys
+each_on_to R S on [] [] r = tt
+each_on_to R S on [] (y ∷ ys) r = absurd r
+each_on_to R S on (x ∷ xs) [] r = absurd r
+each_on_to R S on (x ∷ xs) (y ∷ ys) r = (on x y r.0, each_on_to R S on xs ys r.1)
 
 pub each_join : {X Y : Type 0} (R : X → Y → Type 0) (xs us : List X) (ys vs : List Y) → EachAre R xs ys → EachAre R us vs → EachAre R (xs ++ us) (ys ++ vs)
 each_join R [] us [] vs r s = s
@@ -95,27 +103,36 @@ low_gains m k among (g ∷ gs) le senders low =
     (λ j c. all_right k (gain_from j g) (gained_from j gs) (low j c))
 
 module _ {X : Type 0} {F : X → Type 0} (M : DynBox X Global F → View) where
+  -- only the end of the stamps has broken off the visits of cells
+  abbrev StandsOrEnds : CellState → Cell X F → Type 0
+  StandsOrEnds s c = StandsOrFails M StampEnd s c
+
+  pub has_ended : (s : CellState) (c : Cell X F) → (own : VisitFault) × (StampEnd ≡ StampEnd → own ≡ StampEnd) × HasFailedVisit M own s c → HasReachedEnd s (state_of M c)
+  has_ended s c failed = failed.2.end (failed.1 refl)
+
   -- what a cell has taken, by what it had taken as it stood
   record HasTaken (j : ℕ) (s : CellState) (c : Cell X F) : Type 0 where
     more : List (ℕ × Message)
     is : lane j (state_of M c).taken ≡ lane j s.taken ++ more
 
-  same_peers : (s : CellState) (c : Cell X F) → StandsOrEnds M s c → peers (state_of M c).taken ≡ peers s.taken
+  same_peers : (s : CellState) (c : Cell X F) → StandsOrEnds s c → peers (state_of M c).taken ≡ peers s.taken
   same_peers s c (inl e) = ap (λ (t : CellState). peers t.taken) e.0
-  same_peers s c (inr r) = ap peers r.taken ∙ peers_grown (λ j. gained_from j r.gains) s.taken
+  same_peers s c (inr failed) = let r = has_ended s c failed in ap peers r.taken ∙ peers_grown (λ j. gained_from j r.gains) s.taken
 
-  has_taken : (j : ℕ) (s : CellState) (c : Cell X F) → IsStrictlyIncreasing (peers (state_of M c).taken) → StandsOrEnds M s c → HasTaken j s c
+  has_taken : (j : ℕ) (s : CellState) (c : Cell X F) → IsStrictlyIncreasing (peers (state_of M c).taken) → StandsOrEnds s c → HasTaken j s c
   has_taken j s c up (inl e) = record { more = []; is = ap (λ (t : CellState). lane j t.taken) e.0 ∙ sym (append-nil (lane j s.taken)) }
-  has_taken j s c up (inr r) = record {
-    more = gained_from j r.gains;
-    is = ap (lane j) r.taken ∙ lane_grown j (λ i. gained_from i r.gains) s.taken (subst (λ (ns : List ℕ). IsStrictlyIncreasing ns) (same_peers s c (inr r)) up) (λ none. gained_none j (peers s.taken) r.gains r.senders none);
-  }
+  has_taken j s c up (inr failed) =
+      let r = has_ended s c failed in
+      record {
+        more = gained_from j r.gains;
+        is = ap (lane j) r.taken ∙ lane_grown j (λ i. gained_from i r.gains) s.taken (subst (λ (ns : List ℕ). IsStrictlyIncreasing ns) (same_peers s c (inr failed)) up) (λ none. gained_none j (peers s.taken) r.gains r.senders none);
+      }
 
-  same_sent : (s : CellState) (c : Cell X F) → StandsOrEnds M s c → (state_of M c).sent ≡ s.sent
+  same_sent : (s : CellState) (c : Cell X F) → StandsOrEnds s c → (state_of M c).sent ≡ s.sent
   same_sent s c (inl e) = ap (λ (t : CellState). t.sent) e.0
-  same_sent s c (inr r) = r.sent
+  same_sent s c (inr failed) = (has_ended s c failed).sent
 
-  module _ (budget : ℕ) (made : List View) (started : List CellState) (now : List (Cell X F)) (last : List CellState) (starts : AreStarted made started) (broken : HaveBrokenOff M budget started now)
+  module _ (workers budget : ℕ) (made : List View) (started : List CellState) (now : List (Cell X F)) (last : List CellState) (starts : AreStarted made started) (broken : HaveBrokenOff M StampEnd workers budget started now)
       (joined : AreCellsJoined M 1 now) (quiet : EachAre IsQuiet (states_of M now) last) (settled : AreSettled last) where
     abbrev stood : List CellState
     stood = broken.broken.stood
@@ -126,7 +143,7 @@ module _ {X : Type 0} {F : X → Type 0} (M : DynBox X Global F → View) where
     -- what a cell has taken is a first part of what was sent to it
     ahead : (i j : ℕ) (c : Cell X F) (from : CellState) → slice_get now i ≡ Some c → slice_get stood j ≡ Some from → IsPrefix (lane j (state_of M c).taken) (lane i from.sent)
     ahead i j c from at f =
-        let d = each_on (StandsOrEnds M) stood now broken.broken.came j from f in
+        let d = each_on StandsOrEnds stood now broken.broken.came j from f in
         let u = each_on IsQuiet (states_of M now) last quiet i (state_of M c) (map_at (state_of M) now i c at) in
         let w = each_on IsQuiet (states_of M now) last quiet j (state_of M d.0) (map_at (state_of M) now j d.0 d.1) in
         let s = settled i j u.0 w.0 u.1 w.1 in
@@ -134,7 +151,7 @@ module _ {X : Type 0} {F : X → Type 0} (M : DynBox X Global F → View) where
 
     prefixes : ArePrefixes stood
     prefixes i j to from e f =
-        let c = each_on (StandsOrEnds M) stood now broken.broken.came i to e in
+        let c = each_on StandsOrEnds stood now broken.broken.came i to e in
         let t = has_taken j to c.0 (ascends i c.0 c.1) c.2 in
         let p = ahead i j c.0 from c.1 f in
         (t.more ++ p.0, sym (append_assoc (lane j to.taken) t.more p.0) ∙ ap (λ (es : List (ℕ × Message)). es ++ p.0) (sym t.is) ∙ p.1)
@@ -145,14 +162,14 @@ module _ {X : Type 0} {F : X → Type 0} (M : DynBox X Global F → View) where
     -- all stamps that a cell has taken are low
     low_taken : (i j : ℕ) (c : Cell X F) → slice_get now i ≡ Some c → j < length now → All (Within (total stood)) (lane j (state_of M c).taken)
     low_taken i j c at lt =
-        let long : length stood ≡ length now = each_long (StandsOrEnds M) stood now broken.broken.came in
+        let long : length stood ≡ length now = each_long StandsOrEnds stood now broken.broken.came in
         let from = there stood j (omega (arith, lt, long)) in
         let p = ahead i j c from.0 at from.1 in
         all_left (total stood) (lane j (state_of M c).taken) p.0 (subst (λ (es : List (ℕ × Message)). All (Within (total stood)) es) (sym p.1) ((low j from.0 from.1).sent i))
 
     few : budget ≤ budget_limit → total stood < amount_limit
     few within =
-        let long = each_long (StandsOrEnds M) stood now broken.broken.came in
+        let long = each_long StandsOrEnds stood now broken.broken.came in
         let longer = each_long IsMoved broken.before stood broken.broken.gone in
         let size = joined.few in
         let bound = mul-le-mul_right sprint_limit (let le : length broken.before ≤ variable_limit = omega (arith, long, longer, size) in le) in
@@ -162,18 +179,19 @@ module _ {X : Type 0} {F : X → Type 0} (M : DynBox X Global F → View) where
 
     pub no_end : budget ≤ budget_limit → SomeFailed StampEnd now → ⊥
     no_end within failed =
-        let s = each_back (StandsOrEnds M) stood now broken.broken.came failed.place failed.cell failed.at in
+        let s = each_back StandsOrEnds stood now broken.broken.came failed.place failed.cell failed.at in
         elim s.2 [
           | inl fine ↦ none-some StampEnd (sym (sym failed.is ∙ fine.1))
-          | inr r ↦
+          | inr own ↦
+              let r = has_ended s.0 failed.cell own in
               let among : List ℕ = peers s.0.taken in
-              let is : peers (state_of M failed.cell).taken ≡ among = same_peers s.0 failed.cell (inr r) in
+              let is : peers (state_of M failed.cell).taken ≡ among = same_peers s.0 failed.cell (inr own) in
               let up = ascends failed.place failed.cell failed.at in
               let wired = joined.wired failed.place failed.cell failed.at in
               let gains = low_gains 0 (total stood) among r.gains (omega arith) r.senders
               (λ j c.
               let inside : j < length now = subst (λ (n : ℕ). n < length now) c.2 (subst (λ (ns : List ℕ). All (λ n. n < length now) ns) is wired.below c.0 j c.1) in
-              let taken = has_taken j s.0 failed.cell up (inr r) in
+              let taken = has_taken j s.0 failed.cell up (inr own) in
               all_right (total stood) (lane j s.0.taken) (gained_from j r.gains) (subst (λ (es : List (ℕ × Message)). All (Within (total stood)) es)
               (ap (lane j) r.taken ∙ lane_grown j (λ i. gained_from i r.gains) s.0.taken (subst (λ (ns : List ℕ). IsStrictlyIncreasing ns) is up) (λ none. gained_none j among r.gains r.senders none))
               (low_taken failed.place j failed.cell failed.at inside))) in

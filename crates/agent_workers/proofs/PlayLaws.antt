@@ -5,7 +5,7 @@ use Rattle.std.specs.List.{sum_by}
 use Rattle.std.proofs.Math.Nat.{suc-mul, mul-le-mul_right}
 use Rattle.std.proofs.lemmas.Bool.{cases_eq, cases_Bool, cases_lt}
 use Rattle.std.proofs.lemmas.Option.{none-some, same_Some, slice_get_within, slice_get-get_or}
-use Rattle.std.proofs.lemmas.List.{map-append}
+use Rattle.std.proofs.lemmas.List.{length-map, map-append}
 use Rattle.std.proofs.lemmas.List.Sums.{sum_by-cons, sum_by-set, sum_by-append}
 use Rattle.std.specs.declared.dyn_box.DynBox.{DynBox}
 use Rattle.std.specs.declared.alloc.Global.{Global}
@@ -17,7 +17,7 @@ use Rattle.worker_laws.specs.CellRounds.{taken_by, total}
 use Rattle.worker_laws.proofs.VisitLaws.{sprints_are_visits, totals_add}
 use Rattle.agent_cells.specs.declared.cell.Cell.{Cell}
 use Rattle.agent_cells.specs.declared.fault.VisitFault.{VisitFault}
-use Rattle.agent_cells.specs.State.{state_of, fault_in}
+use Rattle.agent_cells.specs.State.{state_of, begun_in, fault_in, IsCell, KeepsLinks}
 use Rattle.agent_workers.specs.Joined.{states_of, EachIs, EachBecomes}
 use Rattle.agent_cells.specs.declared.fault.VisitFault.TheVariants.{NoMemory, StampEnd}
 use Rattle.agent_workers.specs.Parts.{both_of}
@@ -71,6 +71,15 @@ most_within n k x low le = let grow = mul-le-mul_right x le in omega (arith, low
 module _ {X : Type 0} {F : X → Type 0} (M : DynBox X Global F → View) where
   pub stays_ready : (c : Cell X F) → IsReady M c → StaysReady M c c
   stays_ready c r = record { same = record { me = refl; links = keeps_none M c }; ready = r }
+
+  -- a cell after a visit
+  pub visited_ready : (a b : Cell X F) → IsReady M a → (state_of M b).me ≡ (state_of M a).me → KeepsLinks a b → IsCell M b → begun_in b ≡ true → StaysReady M a b
+  visited_ready a b r me links cell begun =
+      let long_a : length (state_of M a).taken ≡ length a.heads.items = length-map a.heads.items _ in
+      let long_b : length (state_of M b).taken ≡ length b.heads.items = length-map b.heads.items _ in
+      let size = links.heads.size in
+      let few = r.few in
+      record { same = record { me = me; links = links }; ready = record { begun = record { cell = cell; begun = begun }; few = omega (arith, long_a, long_b, size, few) } }
 
   pub ready_then : (a b c : Cell X F) → StaysReady M a b → StaysReady M b c → StaysReady M a c
   ready_then a b c s t = record { same = record { me = t.same.me ∙ s.same.me; links = keeps_then M a b c s.same.links t.same.links }; ready = t.ready }

@@ -26,7 +26,7 @@ use Rattle.agent_workers.specs.Joined.{states_of, EachIs, EachBecomes, HasBegun,
 use Rattle.agent_workers.specs.Settled.{HaveSettled}
 use Rattle.dcop_base.specs.Limits.{budget_limit}
 use Rattle.agent_workers.specs.Turns.{SomeFailed}
-use Rattle.agent_workers.specs.Broken.{HaveBrokenOff}
+use Rattle.agent_workers.specs.Broken.{HasFailedStart, HaveStartedPartly, HaveBrokenOff}
 use Rattle.agent_workers.proofs.BrokenLaws.{no_end}
 use Rattle.agent_workers.specs.Run.{views_of, HasStarted, AreStarting, AreBusy, AreDue, ArePlayedIn, AreDulyPlayed, ArePlayedOut, EndIdle, AtStill, AreIdle, RestsAtStill}
 use Rattle.agent_workers.proofs.ListLaws.{map_back, each_are, one_at}
@@ -174,6 +174,25 @@ module _ {X : Type 0} {F : X → Type 0} (M : DynBox X Global F → View) where
     ];
   }
 
+  -- the start of the next cell failed
+  pub start_partly : (k : ℕ) (before now : List (Cell X F)) (d y : Cell X F) → AreStarting M k before now → k < length now → HasFailedStart M (get_or now k d) y → HaveStartedPartly M before (set now k y)
+  start_partly k before now d y s lt failed = record {
+    done = k;
+    inside = let size = s.same.size in omega (arith, lt, size);
+    started = λ i a b e f in_i. elim (set_back now k y i b lt f) [
+      | inl here ↦ let at = here.0 in absurd (omega (arith, at, in_i))
+      | inr out ↦ s.started i a b e out.1 in_i
+    ];
+    failed = λ a b e f. elim (set_back now k y k b lt f) [
+      | inl here ↦ subst (λ (c : Cell X F). HasFailedStart M a c) (sym here.1) (subst (λ (c : Cell X F). HasFailedStart M c y) (stands k before now d s lt a e) failed)
+      | inr out ↦ absurd (out.0 refl)
+    ];
+    rest = λ i a b e f ahead. elim (set_back now k y i b lt f) [
+      | inl here ↦ let at = here.0 in absurd (omega (arith, at, ahead))
+      | inr out ↦ s.rest i a b e out.1 (omega (arith, ahead))
+    ];
+  }
+
   -- the same cells, after two steps
   pub same_then : (a b c : List (Cell X F)) → EachBecomes IsSameCell a b → EachBecomes IsSameCell b c → EachBecomes IsSameCell a c
   same_then a b c s t = record {
@@ -308,9 +327,9 @@ module _ {X : Type 0} {F : X → Type 0} (M : DynBox X Global F → View) where
   fine_still before after e fine = record { each = λ i b is. let a = stood M _ before after e i b is in a.2 (fine.each i a.0 a.1) }
 
   -- no run breaks off because stamps end
-  pub never_ends : (budget : ℕ) (before begun now last : List (Cell X F)) → budget ≤ budget_limit → AreCellsJoined M 1 before → EachBecomes (HasStarted M) before begun → HaveBrokenOff M budget (states_of M begun) now
+  pub never_ends : (workers budget : ℕ) (before begun now last : List (Cell X F)) → budget ≤ budget_limit → AreCellsJoined M 1 before → EachBecomes (HasStarted M) before begun → HaveBrokenOff M StampEnd workers budget (states_of M begun) now
       → AreCellsJoined M 1 now → HaveSettled M (home 1 (length now)) (length now) now last → SomeFailed StampEnd now → ⊥
-  never_ends budget before begun now last within j s broken joined settled failed =
+  never_ends workers budget before begun now last within j s broken joined settled failed =
       let made = settling M (home 1 (length now)) now last settled in
       let one = one_node_is_all.settling (states_of M now) (states_of M last) (subst (λ (n : ℕ). IsSettling (home 1 n) (states_of M now) (states_of M last)) (sym (length-map now (state_of M))) made) in
-      no_end M budget (views_of M before) (states_of M begun) now (states_of M last) (starts before begun j s) broken joined one.0 one.1 within failed
+      no_end M workers budget (views_of M before) (states_of M begun) now (states_of M last) (starts before begun j s) broken joined one.0 one.1 within failed

@@ -38,6 +38,38 @@ module _ {T : Type 0} where
       let some = p.11 in
       lt-leb (length a) size (omega (arith, whole, long, some)) ∙ sym (ne_eqb (suc count) 0 (λ (no : suc count ≡ 0). absurd (omega (arith, no))))
 
+-- the parts but the last are full, and the last is not empty
+long_by : {T : Type 0} (P : List T → Result ℕ VisitFault → List T → Type 0) (size count : ℕ) (a c : List T) (r : Result ℕ VisitFault) → ByParts P size count a r c → 0 < count → count * size < length a
+long_by P size zero a c r p some = absurd (omega (arith, some))
+long_by P size (suc zero) a c r p some =
+    let whole = ap length p.6 ∙ length-append p.0 p.1 in
+    let long = p.10 in
+    let rest = p.11 in
+    let one : suc zero * size ≡ size = omega arith in
+    omega (arith, whole, long, rest, one)
+long_by P size (suc (suc count)) a c r p some =
+    let whole = ap length p.6 ∙ length-append p.0 p.1 in
+    let long = p.10 in
+    let rest = long_by P size (suc count) p.1 p.3 p.5 p.12 (omega arith) in
+    let grow = suc-mul (suc count) size in
+    omega (arith, whole, long, rest, grow)
+
+pub parts_within : {T : Type 0} (P : List T → Result ℕ VisitFault → List T → Type 0) (size count parts : ℕ) (a c : List T) (r : Result ℕ VisitFault) → ByParts P size count a r c → 0 < parts → length a ≤ parts * size → suc count ≤ parts
+parts_within P size zero parts a c r p some within = omega (arith, some)
+parts_within P size (suc count) parts a c r p some within =
+    let long = long_by P size (suc count) a c r p (omega arith) in
+    let few : suc count < parts = lt_of_mul-lt-mul_right size (omega (arith, long, within)) in
+    omega (arith, few)
+
+-- all cells fit into as many parts as there are workers
+pub workers_hold : (workers size all half : ℕ) → 0 < workers → half ≡ max (div_ceil all workers) 1 → half ≤ size → all ≤ workers * size
+workers_hold workers size all half some is le =
+    let whole = (div_ceil_times all workers some).0 in
+    let up : div_ceil all workers ≤ size = omega (arith, is, le) in
+    let wide = mul-le-mul_right workers up in
+    let turn : size * workers ≡ workers * size = mul_comm size workers in
+    omega (arith, whole, wide, turn)
+
 -- a round has at most as many parts as workers
 fewer_parts : (more workers size all half : ℕ) → 0 < workers → (0 < more → more * size < all) → half ≡ max (div_ceil all workers) 1 → half ≤ size → more < workers
 fewer_parts zero workers size all half some long is le = some

@@ -1,5 +1,5 @@
 -- Turns that pass over nobody who was sent something.
-use Rattle.std.proofs.Common.{◌≡◌, ℕ, zero, suc, max, ◌+◌, ◌<◌, ◌≤◌, ◌⊎◌, ◌==◌, Bool, true, false, Result, Ok, Err, List, [], ◌∷◌, ◌++◌, map, take, drop, length, set, get_or, Some, slice_get, refl, sym, ap, subst, ◌∙◌, inl, inr, arith}
+use Rattle.std.proofs.Common.{◌≡◌, ◌≢◌, ℕ, zero, suc, max, ◌+◌, ◌<◌, ◌≤◌, ◌⊎◌, ◌==◌, Bool, true, false, Result, Ok, Err, List, [], ◌∷◌, ◌++◌, map, take, drop, length, set, get_or, Some, slice_get, refl, sym, ap, subst, ◌∙◌, inl, inr, arith}
 use Rattle.std.specs.Prelude.{OnOk, ◌||◌}
 use Rattle.std.specs.Int.{div_ceil}
 use Rattle.std.proofs.lemmas.Bool.{cases_lt, ne_eqb}
@@ -16,7 +16,8 @@ use Rattle.agent_cells.specs.State.{state_of}
 use Rattle.worker_laws.specs.CellRounds.{total}
 use Rattle.worker_laws.specs.OneNode.{IsSettling}
 use Rattle.agent_workers.specs.Joined.{states_of}
-use Rattle.agent_workers.specs.Watched.{IsUnmarked, AreCellsUnmarked, all_due, sent_to, found_at, IsVisitedOnce, KnowsOfNone, MayBePassed, MarksReceivers, MarksWaiting, PassesUnmarked, PassesNone, AreTurns, IsPlayedInTurns, IsTurnRound}
+use Rattle.agent_workers.specs.Watched.{IsUnmarked, AreCellsUnmarked, all_due, sent_to, found_at, IsVisitedOnce, KnowsOfNone, NeedsNoVisit, MarksKnowing, MayBePassed, MarksReceivers, MarksWaiting, PassesUnmarked, PassesNone, AreTurns, IsPlayedInTurns, IsTurnRound}
+use Rattle.agent_workers.proofs.CellLaws.{ended_once}
 use Rattle.agent_workers.proofs.PlayLaws.{set_back}
 
 -- two lists that agree from a place on
@@ -45,6 +46,11 @@ map_set_same f now p d y e = map-set f now p y ∙ ap (λ z. set (map f now) p z
 -- a turn after another one is not the first
 not_first : (turns : ℕ) → (suc turns == 0) ≡ false
 not_first turns = ne_eqb (suc turns) 0 (λ (no : suc turns ≡ 0). absurd (omega (arith, no)))
+
+-- a turn that goes not to all cells is not the first
+pub later : (turn : ℕ) (all : Bool) → (turn ≡ 0 → all ≡ true) → all ≡ false → 0 < turn
+later zero all first some = let no : true ≡ false = sym (first refl) ∙ some in absurd (cc)
+later (suc turn) all first some = omega arith
 
 -- one worker plays all cells as one part
 pub one_part_size : (size all workers : ℕ) → workers ≡ 1 → size ≡ max (div_ceil all workers) 1 → all ≤ size
@@ -78,6 +84,14 @@ module _ {X : Type 0} {F : X → Type 0} (M : DynBox X Global F → View) where
         ] in
         same ∙ past ∙ ap (λ (cs : List (Cell X F)). map (λ (c : Cell X F). lane i (state_of M c).sent) cs) (sym found);
   }
+
+  -- the marks after one more visit
+  pub knowing_set : (words more : List ℕ) (p from done : ℕ) (now : List (Cell X F)) (y : Cell X F) → p < length now → ((i : ℕ) → i < done → i ≢ p → i < from)
+      → ((k : ℕ) → k ≢ p → IsUnmarked more k → IsUnmarked words k) → (IsUnmarked more p → NeedsNoVisit M y) → MarksKnowing M words from now → MarksKnowing M more done (set now p y)
+  knowing_set words more p from done now y inside below kept here h = λ i c at lt un. elim (set_back now p y i c inside at) [
+    | inl place ↦ subst (λ (z : Cell X F). NeedsNoVisit M z) (sym place.1) (here (subst (λ (n : ℕ). IsUnmarked more n) place.0 un))
+    | inr out ↦ h i c out.1 (below i lt out.0) (kept i out.0 un)
+  ]
 
   -- a turn up to a place: a cell from there on that is not marked was not marked before the turn,
   -- and was sent nothing in it
@@ -157,35 +171,39 @@ module _ {X : Type 0} {F : X → Type 0} (M : DynBox X Global F → View) where
     pub are : AreTurns M alone turns first earlier now
     pub more : 0 < turns → total (states_of M earlier) < total (states_of M now)
     pub marks : 0 < turns → MarksWaiting M words (length now) earlier now
+    pub known : 0 < turns → MarksKnowing M words (length now) now
 
   pub no_turns : (alone : Bool) (words : List ℕ) (first : List (Cell X F)) → TurnsSoFar alone 0 words first first
-  no_turns alone words first = record { earlier = first; are = (refl, refl); more = λ lt. absurd (omega (arith, lt)); marks = λ lt. absurd (omega (arith, lt)) }
+  no_turns alone words first = record { earlier = first; are = (refl, refl); more = λ lt. absurd (omega (arith, lt)); marks = λ lt. absurd (omega (arith, lt)); known = λ lt. absurd (omega (arith, lt)) }
 
   -- why a turn passed over a cell, by the turns before it
-  over_by : (alone : Bool) (turns : ℕ) (words : List ℕ) (first now next : List (Cell X F)) (t : TurnsSoFar alone turns words first now) (i : ℕ) (a b : Cell X F) → i < length now → b ≡ a
+  over_by : (alone : Bool) (turns : ℕ) (words : List ℕ) (first now next : List (Cell X F)) (t : TurnsSoFar alone turns words first now) (i : ℕ) (a b : Cell X F) → slice_get now i ≡ Some a → b ≡ a
       → (all_due turns alone ≡ true → (alone ≡ true) × KnowsOfNone M a) → (all_due turns alone ≡ false → IsUnmarked words i) → sent_to M i (found_at i now next) ≡ sent_to M i now
-      → (alone ≡ true) × (b ≡ a) × ((turns == 0) ≡ true → KnowsOfNone M a) × (sent_to M i (found_at i now next) ≡ sent_to M i (found_at i t.earlier now))
-  over_by false zero words first now next t i a b inside same all later quiet = let no : false ≡ true = (all refl).0 in absurd (cc)
-  over_by false (suc turns) words first now next t i a b inside same all later quiet =
+      → IsVisitedOnce M a b ⊎ ((alone ≡ true) × (b ≡ a) × KnowsOfNone M a × (sent_to M i (found_at i now next) ≡ sent_to M i (found_at i t.earlier now)))
+  over_by false zero words first now next t i a b at same all later quiet = let no : false ≡ true = (all refl).0 in absurd (cc)
+  over_by false (suc turns) words first now next t i a b at same all later quiet =
       let due : all_due (suc turns) false ≡ true = ap (λ (x : Bool). x || true) (not_first turns) in
       let no : false ≡ true = (all due).0 in absurd (cc)
-  over_by true zero words first now next t i a b inside same all later quiet =
+  over_by true zero words first now next t i a b at same all later quiet =
       let start : t.earlier ≡ now = t.are.0 ∙ sym t.are.1 in
       let found : found_at i t.earlier now ≡ now = ap (λ (cs : List (Cell X F)). take i now ++ drop i cs) start ∙ take-append-drop i now in
-      (refl, same, (λ _. (all refl).1), quiet ∙ ap (sent_to M i) (sym found))
-  over_by true (suc turns) words first now next t i a b inside same all later quiet =
+      inr (refl, same, (all refl).1, quiet ∙ ap (sent_to M i) (sym found))
+  over_by true (suc turns) words first now next t i a b at same all later quiet =
       let by_marks : all_due (suc turns) true ≡ false = ap (λ (x : Bool). x || false) (not_first turns) in
-      (refl, same, (λ (one : (suc turns == 0) ≡ true). let no : true ≡ false = sym one ∙ not_first turns in absurd (cc)), quiet ∙ (t.marks (omega arith)).each i inside (later by_marks))
+      let inside = slice_get_within now i a at in
+      elim (t.known (omega arith) i a at inside (later by_marks)) [
+        | inl ended ↦ inl (subst (λ (z : Cell X F). IsVisitedOnce M a z) (sym same) (ended_once M a ended))
+        | inr none ↦ inr (refl, same, none, quiet ∙ (t.marks (omega arith)).each i inside (later by_marks))
+      ]
 
   -- a turn after others
-  none_passed : (alone : Bool) (turns : ℕ) (words : List ℕ) (first now next : List (Cell X F)) (t : TurnsSoFar alone turns words first now) → length next ≡ length now → PassesUnmarked M (all_due turns alone) alone words (length now) now next → PassesNone M (turns == 0) alone t.earlier now next
+  none_passed : (alone : Bool) (turns : ℕ) (words : List ℕ) (first now next : List (Cell X F)) (t : TurnsSoFar alone turns words first now) → length next ≡ length now → PassesUnmarked M (all_due turns alone) alone words (length now) now next → PassesNone M alone t.earlier now next
   none_passed alone turns words first now next t size h = record {
     size = size;
     each = λ i a b e f.
-        let inside = slice_get_within now i a e in
-        elim (h.each i a b e f inside) [
+        elim (h.each i a b e f (slice_get_within now i a e)) [
           | inl visited ↦ inl visited
-          | inr over ↦ inr (over_by alone turns words first now next t i a b inside over.0 over.1 over.2 over.3)
+          | inr over ↦ over_by alone turns words first now next t i a b e over.0 over.1 over.2 over.3
         ];
   }
 
@@ -195,13 +213,14 @@ module _ {X : Type 0} {F : X → Type 0} (M : DynBox X Global F → View) where
       let count : suc turns ≡ turns + 1 = omega arith in
       subst (λ (n : ℕ). AreTurns M alone n first now next) count next_turn
 
-  pub one_turn_more : (all alone : Bool) (turns : ℕ) (words more : List ℕ) (first now next : List (Cell X F)) → all ≡ all_due turns alone → length next ≡ length now → PassesUnmarked M all alone words (length now) now next → MarksWaiting M more (length now) now next
+  pub one_turn_more : (all alone : Bool) (turns : ℕ) (words more : List ℕ) (first now next : List (Cell X F)) → all ≡ all_due turns alone → length next ≡ length now → PassesUnmarked M all alone words (length now) now next → MarksWaiting M more (length now) now next → MarksKnowing M more (length now) next
       → total (states_of M now) < total (states_of M next) → TurnsSoFar alone turns words first now → TurnsSoFar alone (turns + 1) more first next
-  one_turn_more all alone turns words more first now next due size passes marks took t = record {
+  one_turn_more all alone turns words more first now next due size passes marks known took t = record {
     earlier = now;
     are = turns_more alone turns words first now next size (subst (λ (b : Bool). PassesUnmarked M b alone words (length now) now next) due passes) t;
     more = λ some. took;
     marks = λ some. subst (λ (n : ℕ). MarksWaiting M more n now next) (sym size) marks;
+    known = λ some. subst (λ (n : ℕ). MarksKnowing M more n next) (sym size) known;
   }
 
   -- a part whose last turn took nothing, and one that had all its turns

@@ -110,10 +110,9 @@ marked_kept words place within k un = elim (cases_eq k place) [
   | inr other ↦ marked_other words place within k other un
 ]
 
-pub marked_same : (words : List ℕ) (place : ℕ) → place / 64 < length words → (flags : List Bool) (k : ℕ) → IsUnmarked (set words (place / 64) (bit_or (slice_index words (place / 64)) (1 * 2 ^ (place % 64) % 2 ^ 64))) k
-    → slice_get (set flags place false) k ≡ slice_get flags k
-marked_same words place within flags k un = elim (cases_eq k place) [
-  | inl same ↦ absurd (marked_here words place within (subst (λ (n : ℕ). IsUnmarked (set words (place / 64) (bit_or (slice_index words (place / 64)) (1 * 2 ^ (place % 64) % 2 ^ 64))) n) same un))
+pub marked_same : (words : List ℕ) (place : ℕ) → (IsUnmarked words place → ⊥) → (flags : List Bool) (k : ℕ) → IsUnmarked words k → slice_get (set flags place false) k ≡ slice_get flags k
+marked_same words place marked flags k un = elim (cases_eq k place) [
+  | inl same ↦ absurd (marked (subst (λ (n : ℕ). IsUnmarked words n) same un))
   | inr other ↦ set_other flags place k false other
 ]
 

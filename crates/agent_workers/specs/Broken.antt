@@ -1,8 +1,9 @@
--- A round that was broken off because stamps ended.
-use Rattle.std.specs.Prelude.{◌≡◌, ℕ, ◌+◌, ◌*◌, ◌<◌, ◌≤◌, ◌⊎◌, List, length, None}
+-- A round, and a run, that was broken off by a fault.
+use Rattle.std.specs.Prelude.{◌≡◌, ℕ, ◌+◌, ◌*◌, ◌<◌, ◌≤◌, ◌⊎◌, true, if◌then◌else◌, List, length, Some, None, is_some, slice_get}
+use Rattle.std.specs.List.{sum_by}
 use Rattle.std.specs.declared.dyn_box.DynBox.{DynBox}
 use Rattle.std.specs.declared.alloc.Global.{Global}
-use Rattle.protocol_steps.specs.View.{View}
+use Rattle.protocol_steps.specs.View.{View, made_of}
 use Rattle.protocol_steps.specs.Stamps.{Deed}
 use Rattle.worker_laws.specs.Cells.{CellState, EachAre}
 use Rattle.worker_laws.specs.Acts.{IsLater}
@@ -10,9 +11,13 @@ use Rattle.worker_laws.specs.CellRounds.{total}
 use Rattle.worker_laws.specs.Played.{ArePlayed}
 use Rattle.worker_laws.specs.StampCounts.{IsMoved}
 use Rattle.agent_cells.specs.declared.cell.Cell.{Cell}
-use Rattle.agent_cells.specs.State.{state_of, fault_in}
+use Rattle.agent_cells.specs.declared.fault.VisitFault.{VisitFault}
+use Rattle.agent_cells.specs.declared.fault.VisitFault.TheVariants.{NoMemory, StampEnd}
+use Rattle.agent_cells.specs.State.{state_of, begun_in, fault_in}
 use Rattle.agent_cells.specs.Failed.{HasReachedEnd}
-use Rattle.agent_workers.specs.Turns.{sprint_limit}
+use Rattle.agent_workers.specs.Joined.{states_of, EachBecomes}
+use Rattle.agent_workers.specs.Turns.{sprint_limit, SomeFailed}
+use Rattle.agent_workers.specs.Run.{HasStarted}
 
 -- a cell after some activations
 pub record HasGoneOn (before after : CellState) : Type 0 where
@@ -20,24 +25,66 @@ pub record HasGoneOn (before after : CellState) : Type 0 where
   pub later : IsLater before deeds after
 
 module _ {X : Type 0} {F : X → Type 0} where
-  -- the cell is in this state and has not failed, or a visit from this state has reached the end of
-  -- the stamps
-  abbrev pub StandsOrEnds : (DynBox X Global F → View) → CellState → Cell X F → Type 0
-  StandsOrEnds meaning s c = ((state_of meaning c ≡ s) × (fault_in c ≡ None)) ⊎ HasReachedEnd s (state_of meaning c)
+  -- a visit of the cell from this state has failed with this fault: its agent is still the one that
+  -- was made, and if stamps have ended, the visit has reached their end
+  pub record HasFailedVisit (meaning : DynBox X Global F → View) (fault : VisitFault) (before : CellState) (after : Cell X F) : Type 0 where
+    pub failed : fault_in after ≡ Some fault
+    pub origin : made_of (state_of meaning after).view ≡ made_of before.view
+    pub end : fault ≡ StampEnd → HasReachedEnd before (state_of meaning after)
+
+  -- the cell is in this state and has not failed, or a visit from this state has failed; if `fault`
+  -- is the end of the stamps, so is the cell's own fault
+  abbrev pub StandsOrFails : (DynBox X Global F → View) → VisitFault → CellState → Cell X F → Type 0
+  StandsOrFails meaning fault s c = ((state_of meaning c ≡ s) × (fault_in c ≡ None))
+      ⊎ ((own : VisitFault) × (fault ≡ StampEnd → own ≡ StampEnd) × HasFailedVisit meaning own s c)
+
+  -- how many cells have failed
+  abbrev pub failure : Cell X F → ℕ
+  failure c = if is_some (fault_in c) then 1 else 0
+
+  abbrev pub failures : List (Cell X F) → ℕ
+  failures cells = sum_by failure cells
 
   -- R holds of the state of each cell before and of a later one, with at most `limit` more messages
   -- taken for each cell on average; from there each cell has not changed, or a visit of it has
-  -- reached the end of the stamps
-  pub record AreBrokenOff (meaning : DynBox X Global F → View) (R : CellState → CellState → Type 0) (limit : ℕ) (before : List CellState) (after : List (Cell X F)) : Type 0 where
+  -- failed; at most `most_failed` cells have failed
+  pub record ArePartlyPlayed (meaning : DynBox X Global F → View) (fault : VisitFault) (R : CellState → CellState → Type 0) (limit most_failed : ℕ) (before : List CellState) (after : List (Cell X F)) : Type 0 where
     pub stood : List CellState
     pub gone : EachAre R before stood
     pub most : total stood ≤ total before + length before * limit
-    pub came : EachAre (StandsOrEnds meaning) stood after
+    pub came : EachAre (StandsOrFails meaning fault) stood after
+    pub few : failures after ≤ most_failed
 
-  -- cells that had started were played in rounds under a budget, and then in one more round, which
-  -- was broken off
-  pub record HaveBrokenOff (meaning : DynBox X Global F → View) (budget : ℕ) (started : List CellState) (after : List (Cell X F)) : Type 0 where
+  -- cells that had started were played in rounds under a budget, and then in one more round by at
+  -- most `workers` workers, which was broken off
+  pub record HaveBrokenOff (meaning : DynBox X Global F → View) (fault : VisitFault) (workers budget : ℕ) (started : List CellState) (after : List (Cell X F)) : Type 0 where
     pub before : List CellState
     pub played : ArePlayed budget started before
     pub less : total before < budget
-    pub broken : AreBrokenOff meaning IsMoved sprint_limit before after
+    pub broken : ArePartlyPlayed meaning fault IsMoved sprint_limit workers before after
+
+  -- the start of a cell has failed, since memory ran out: its agent is still the one that was made
+  pub record HasFailedStart (meaning : DynBox X Global F → View) (before after : Cell X F) : Type 0 where
+    pub failed : fault_in after ≡ Some NoMemory
+    pub begun : begun_in after ≡ true
+    pub origin : made_of (state_of meaning after).view ≡ made_of (state_of meaning before).view
+
+  -- each of the first `done` cells has started, the start of the next one has failed, and no other
+  -- cell has changed
+  pub record HaveStartedPartly (meaning : DynBox X Global F → View) (before after : List (Cell X F)) : Type 0 where
+    pub done : ℕ
+    pub inside : done < length before
+    pub started : (i : ℕ) (a b : Cell X F) → slice_get before i ≡ Some a → slice_get after i ≡ Some b → i < done → HasStarted meaning a b
+    pub failed : (a b : Cell X F) → slice_get before done ≡ Some a → slice_get after done ≡ Some b → HasFailedStart meaning a b
+    pub rest : (i : ℕ) (a b : Cell X F) → slice_get before i ≡ Some a → slice_get after i ≡ Some b → done < i → b ≡ a
+
+  -- all cells have started, and were played until a round ran out of memory
+  pub record HaveRunShort (meaning : DynBox X Global F → View) (workers budget : ℕ) (made after : List (Cell X F)) : Type 0 where
+    pub started : List (Cell X F)
+    pub starts : EachBecomes (HasStarted meaning) made started
+    pub broken : HaveBrokenOff meaning NoMemory workers budget (states_of meaning started) after
+    pub failed : SomeFailed NoMemory after
+
+  -- a run that ran out of memory, in a start or in a round
+  abbrev pub HaveRunPartly : (DynBox X Global F → View) → ℕ → ℕ → List (Cell X F) → List (Cell X F) → Type 0
+  HaveRunPartly meaning workers budget made after = HaveStartedPartly meaning made after ⊎ HaveRunShort meaning workers budget made after

@@ -46,6 +46,14 @@ module _ {X : Type 0} {F : X → Type 0} where
   pub record KnowsOfNone (meaning : DynBox X Global F → View) (c : Cell X F) : Type 0 where
     pub none : (j : ℕ) → known_from j (state_of meaning c).known ≡ 0
 
+  -- the cell has ended, or knows of no message that waits for it
+  abbrev pub NeedsNoVisit : (DynBox X Global F → View) → Cell X F → Type 0
+  NeedsNoVisit meaning c = (ended_of (state_of meaning c).view ≡ true) ⊎ KnowsOfNone meaning c
+
+  -- none of the first `done` cells needs a visit, unless it is marked
+  abbrev pub MarksKnowing : (DynBox X Global F → View) → List ℕ → ℕ → List (Cell X F) → Type 0
+  MarksKnowing meaning words done cells = (i : ℕ) (c : Cell X F) → slice_get cells i ≡ Some c → i < done → IsUnmarked words i → NeedsNoVisit meaning c
+
   -- the cell at this place was visited once; or, if it knew all that waits for it (`known`), it was
   -- passed over: it was not marked and knew of nothing
   abbrev pub MayBePassed : (DynBox X Global F → View) → Bool → List ℕ → ℕ → Cell X F → Cell X F → Type 0
@@ -77,12 +85,12 @@ module _ {X : Type 0} {F : X → Type 0} where
   -- a turn from `before` to `after`, which follows a turn from `earlier` to `before`, with as many
   -- cells; the first turn follows none, and `earlier` is `before`. Each cell was visited once, unless
   -- it had ended. Or the part is `alone`, since it has all cells, and the cell was passed over: it
-  -- was sent nothing since the turn before came to its place, or, in the first turn, since the
-  -- beginning; and in the first turn it knew of nothing.
-  pub record PassesNone (meaning : DynBox X Global F → View) (first alone : Bool) (earlier before after : List (Cell X F)) : Type 0 where
+  -- knew of nothing, and was sent nothing since the turn before came to its place, or, in the first
+  -- turn, since the beginning.
+  pub record PassesNone (meaning : DynBox X Global F → View) (alone : Bool) (earlier before after : List (Cell X F)) : Type 0 where
     pub size : length after ≡ length before
     pub each : (i : ℕ) (a b : Cell X F) → slice_get before i ≡ Some a → slice_get after i ≡ Some b
-        → IsVisitedOnce meaning a b ⊎ ((alone ≡ true) × (b ≡ a) × (first ≡ true → KnowsOfNone meaning a)
+        → IsVisitedOnce meaning a b ⊎ ((alone ≡ true) × (b ≡ a) × KnowsOfNone meaning a
         × (sent_to meaning i (found_at i before after) ≡ sent_to meaning i (found_at i earlier before)))
 
   -- this many turns of a part, the last of which led from `earlier` to `now`; each turn but the last
@@ -90,12 +98,12 @@ module _ {X : Type 0} {F : X → Type 0} where
   abbrev pub AreTurns : (DynBox X Global F → View) → Bool → ℕ → List (Cell X F) → List (Cell X F) → List (Cell X F) → Type 0
   AreTurns meaning alone zero first earlier now = (earlier ≡ first) × (now ≡ first)
   AreTurns meaning alone (suc turns) first earlier now = (before : List (Cell X F)) × AreTurns meaning alone turns first before earlier
-      × (0 < turns → total (states_of meaning before) < total (states_of meaning earlier)) × PassesNone meaning (turns == 0) alone before earlier now
+      × (0 < turns → total (states_of meaning before) < total (states_of meaning earlier)) × PassesNone meaning alone before earlier now
 
   -- a part was played in turns, at most 32; each but the last took something, and if there are fewer
   -- than 32, the last took nothing. Each turn visits each cell that has not ended once. Only a part
-  -- that has all cells passes over some: in the first turn those that know of nothing and were sent
-  -- nothing, and in a later one those that were sent nothing since the turn before came to them.
+  -- that has all cells passes over some: those that know of nothing, and were sent nothing in the
+  -- first turn, or in a later one since the turn before came to them.
   pub record IsPlayedInTurns (meaning : DynBox X Global F → View) (alone : Bool) (first last : List (Cell X F)) : Type 0 where
     pub turns : ℕ
     pub earlier : List (Cell X F)

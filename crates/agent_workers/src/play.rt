@@ -1,17 +1,15 @@
 //! Playing cells: turns, sprints of turns, and concurrent parts.
 
-ghost use Rattle.std.specs.Prelude.{◌≡◌, ◌≤◌, ◌<◌, ℕ, Bool, length, true, false, IfOk, OnOk, IfErr, None, Some};
+ghost use Rattle.std.specs.Prelude.{◌≡◌, ◌≤◌, ◌<◌, ◌*◌, ℕ, Bool, length, true, false, IfOk, OnOk, IfErr, None, Some};
 ghost use Rattle.dcop_base.specs.Limits.{variable_limit};
 ghost use Rattle.protocol_steps.specs.Rounds.{most_events};
 ghost use Rattle.worker_laws.specs.Cells.{known_from};
-ghost use Rattle.agent_cells.specs.declared.fault.VisitFault.TheVariants.{StampEnd as stamp_end};
-ghost use Rattle.agent_cells.specs.Failed.{HasReachedEnd};
 ghost use Rattle.agent_cells.specs.State.{state_of, fault_in};
 ghost use Rattle.agent_workers.specs.Joined.{states_of, EachIs, EachBecomes};
 ghost use Rattle.agent_workers.specs.Turns.{visit_limit, sprint_limit, IsReady, StaysReady, HasTurned, SomeFailed, AreTurning, HavePlayed};
-ghost use Rattle.agent_workers.specs.Watched.{MarksReceivers, all_due, MayBePassed, MarksWaiting, PassesUnmarked, IsPlayedInTurns};
+ghost use Rattle.agent_workers.specs.Watched.{IsUnmarked, MarksReceivers, all_due, MayBePassed, NeedsNoVisit, MarksKnowing, MarksWaiting, PassesUnmarked, IsPlayedInTurns};
 ghost use Rattle.agent_workers.specs.Shared.{ArePlayedInParts};
-ghost use Rattle.agent_workers.specs.Broken.{HasGoneOn, AreBrokenOff};
+ghost use Rattle.agent_workers.specs.Broken.{HasGoneOn, HasFailedVisit, ArePartlyPlayed};
 
 use crate::parts::play_parts;
 use crate::watch::Watch;
@@ -45,8 +43,10 @@ pub(crate) fn play_cells<R: Threads + Sync, G: Gate>(
     ensures parts { OnOk result (ArePlayedInParts (λ b. meaning (b.vtable, b.value)) size cells.old cells.new) }
     ensures turns { length cells.old ≤ size → OnOk result (IsPlayedInTurns (λ b. meaning (b.vtable, b.value)) true cells.old cells.new) }
     ensures err { IfErr result (λ f. SomeFailed f cells.new) }
-    ensures end { IfErr result (λ f. f ≡ stamp_end → EachIs (λ c. fault_in c ≡ None) cells.old
-        → AreBrokenOff (λ b. meaning (b.vtable, b.value)) HasGoneOn sprint_limit (states_of (λ b. meaning (b.vtable, b.value)) cells.old) cells.new) }
+    ensures left { (parts : ℕ) → 0 < parts → length cells.old ≤ parts * size
+        → IfErr result (λ f. EachIs (λ c. fault_in c ≡ None) cells.old
+        → ArePartlyPlayed (λ b. meaning (b.vtable, b.value)) f HasGoneOn sprint_limit parts
+        (states_of (λ b. meaning (b.vtable, b.value)) cells.old) cells.new) }
 {
     let alone = cells.len() <= size;
     let play = |part: &mut [Cell]| -> Result<u64, VisitFault>
@@ -54,8 +54,9 @@ pub(crate) fn play_cells<R: Threads + Sync, G: Gate>(
         ensures ready { EachBecomes (λ a b. StaysReady (λ b. meaning (b.vtable, b.value)) a b) part.entry.now part.exit.now }
         ensures ok { IfOk result (λ n. HavePlayed (λ b. meaning (b.vtable, b.value)) n part.entry.now part.exit.now) }
         ensures err { IfErr result (λ f. SomeFailed f part.exit.now) }
-        ensures end { IfErr result (λ f. f ≡ stamp_end → EachIs (λ c. fault_in c ≡ None) part.entry.now
-            → AreBrokenOff (λ b. meaning (b.vtable, b.value)) HasGoneOn sprint_limit (states_of (λ b. meaning (b.vtable, b.value)) part.entry.now) part.exit.now) }
+        ensures left { IfErr result (λ f. EachIs (λ c. fault_in c ≡ None) part.entry.now
+            → ArePartlyPlayed (λ b. meaning (b.vtable, b.value)) f HasGoneOn sprint_limit 1
+            (states_of (λ b. meaning (b.vtable, b.value)) part.entry.now) part.exit.now) }
         ensures turns { OnOk result (IsPlayedInTurns (λ b. meaning (b.vtable, b.value)) alone part.entry.now part.exit.now) }
     { play_part(gate, alone, part) };
     play_parts(rt, &play, size, busy, cells)
@@ -66,19 +67,21 @@ pub(crate) fn play_cells<R: Threads + Sync, G: Gate>(
 ///
 /// The clause `turns` says whom a turn visits. Each turn visits each cell that has not ended once,
 /// unless the part is `alone`: it has all cells, and during a round nothing is sent on a link
-/// except by visits of these cells. Then a turn passes over a cell only if nothing was sent to it
-/// since the turn before came to its place. The first turn passes over a cell only if nothing was
-/// sent to it in this turn, and the cell knows of nothing: its links were settled just before, so a
-/// visit would find nothing. A cell that is passed over passes no gate.
+/// except by visits of these cells. Then a turn passes over a cell only if the cell knows of nothing
+/// and nothing was sent to it since the turn before came to its place, or, in the first turn, in
+/// this turn. The links were settled just before the first turn, so a visit would find nothing. A
+/// cell that is passed over passes no gate.
 ///
 /// The marks of a [`Watch`] decide this. A visit marks each agent to which it sends something, and
-/// only a cell's own turn takes its mark away.
+/// its own cell if it left something that the cell knows of. Only a cell's own turn takes its mark
+/// away.
 ///
 /// Two things are no clause. What another thread sends during a turn has no place in the order of
 /// these visits; so a part that is not `alone` visits all its cells in each turn. And a visit need
-/// not find what was sent before it: it takes at least what its cell knows to wait, and the
-/// settling of the next round shows what is left. A visit that finds nothing leaves the cell as it
-/// was; contracts tell it from no visit by the number of visits, which only proofs know.
+/// not find what was sent before it: it takes at least what its cell knows to wait, and at most 64
+/// messages of each link, and the settling of the next round shows what is left. A visit that finds
+/// nothing leaves the cell as it was; contracts tell it from no visit by the number of visits, which
+/// only proofs know.
 pub(crate) fn play_part<G: Gate>(
     gate: &G,
     alone: bool,
@@ -90,8 +93,9 @@ pub(crate) fn play_part<G: Gate>(
     ensures ok { IfOk result (λ n. HavePlayed (λ b. meaning (b.vtable, b.value)) n cells.old cells.new) }
     ensures turns { OnOk result (IsPlayedInTurns (λ b. meaning (b.vtable, b.value)) alone cells.old cells.new) }
     ensures err { IfErr result (λ f. SomeFailed f cells.new) }
-    ensures end { IfErr result (λ f. f ≡ stamp_end → EachIs (λ c. fault_in c ≡ None) cells.old
-        → AreBrokenOff (λ b. meaning (b.vtable, b.value)) HasGoneOn sprint_limit (states_of (λ b. meaning (b.vtable, b.value)) cells.old) cells.new) }
+    ensures left { IfErr result (λ f. EachIs (λ c. fault_in c ≡ None) cells.old
+        → ArePartlyPlayed (λ b. meaning (b.vtable, b.value)) f HasGoneOn sprint_limit 1
+        (states_of (λ b. meaning (b.vtable, b.value)) cells.old) cells.new) }
 {
     let mut watch = Watch::new();
     let mut taken = 0;
@@ -128,13 +132,16 @@ fn take_turn<G: Gate>(
 ) -> Result<u64, VisitFault>
     requires ready { EachIs (λ c. IsReady (λ b. meaning (b.vtable, b.value)) c) cells.old }
     requires few { length cells.old ≤ variable_limit }
+    requires known { all ≡ false → MarksKnowing (λ b. meaning (b.vtable, b.value)) watch.old.waits (length cells.old) cells.old }
     ensures ready { EachBecomes (λ a b. StaysReady (λ b. meaning (b.vtable, b.value)) a b) cells.old cells.new }
     ensures ok { IfOk result (λ n. AreTurning (λ b. meaning (b.vtable, b.value)) all (length cells.old) n cells.old cells.new) }
     ensures turn { OnOk result (PassesUnmarked (λ b. meaning (b.vtable, b.value)) all alone watch.old.waits (length cells.old) cells.old cells.new) }
     ensures marks { OnOk result (MarksWaiting (λ b. meaning (b.vtable, b.value)) watch.new.waits (length cells.old) cells.old cells.new) }
+    ensures known { OnOk result (MarksKnowing (λ b. meaning (b.vtable, b.value)) watch.new.waits (length cells.old) cells.new) }
     ensures err { IfErr result (λ f. SomeFailed f cells.new) }
-    ensures end { IfErr result (λ f. f ≡ stamp_end → EachIs (λ c. fault_in c ≡ None) cells.old
-        → AreBrokenOff (λ b. meaning (b.vtable, b.value)) HasGoneOn visit_limit (states_of (λ b. meaning (b.vtable, b.value)) cells.old) cells.new) }
+    ensures left { IfErr result (λ f. EachIs (λ c. fault_in c ≡ None) cells.old
+        → ArePartlyPlayed (λ b. meaning (b.vtable, b.value)) f HasGoneOn visit_limit 1
+        (states_of (λ b. meaning (b.vtable, b.value)) cells.old) cells.new) }
 {
     if all {
         return visit_all(gate, alone, watch, cells);
@@ -157,9 +164,11 @@ fn visit_all<G: Gate>(
     ensures ok { IfOk result (λ n. AreTurning (λ b. meaning (b.vtable, b.value)) true (length cells.old) n cells.old cells.new) }
     ensures turn { OnOk result (PassesUnmarked (λ b. meaning (b.vtable, b.value)) true settled watch.old.waits (length cells.old) cells.old cells.new) }
     ensures marks { OnOk result (MarksWaiting (λ b. meaning (b.vtable, b.value)) watch.new.waits (length cells.old) cells.old cells.new) }
+    ensures known { OnOk result (MarksKnowing (λ b. meaning (b.vtable, b.value)) watch.new.waits (length cells.old) cells.new) }
     ensures err { IfErr result (λ f. SomeFailed f cells.new) }
-    ensures end { IfErr result (λ f. f ≡ stamp_end → EachIs (λ c. fault_in c ≡ None) cells.old
-        → AreBrokenOff (λ b. meaning (b.vtable, b.value)) HasGoneOn visit_limit (states_of (λ b. meaning (b.vtable, b.value)) cells.old) cells.new) }
+    ensures left { IfErr result (λ f. EachIs (λ c. fault_in c ≡ None) cells.old
+        → ArePartlyPlayed (λ b. meaning (b.vtable, b.value)) f HasGoneOn visit_limit 1
+        (states_of (λ b. meaning (b.vtable, b.value)) cells.old) cells.new) }
 {
     let mut taken = 0;
     for (place, cell) in cells.iter_mut().enumerate() {
@@ -177,13 +186,16 @@ fn visit_waiting<G: Gate>(
 ) -> Result<u64, VisitFault>
     requires ready { EachIs (λ c. IsReady (λ b. meaning (b.vtable, b.value)) c) cells.old }
     requires few { length cells.old ≤ variable_limit }
+    requires known { MarksKnowing (λ b. meaning (b.vtable, b.value)) watch.old.waits (length cells.old) cells.old }
     ensures ready { EachBecomes (λ a b. StaysReady (λ b. meaning (b.vtable, b.value)) a b) cells.old cells.new }
     ensures ok { IfOk result (λ n. AreTurning (λ b. meaning (b.vtable, b.value)) false (length cells.old) n cells.old cells.new) }
     ensures turn { (alone : Bool) → OnOk result (PassesUnmarked (λ b. meaning (b.vtable, b.value)) false alone watch.old.waits (length cells.old) cells.old cells.new) }
     ensures marks { OnOk result (MarksWaiting (λ b. meaning (b.vtable, b.value)) watch.new.waits (length cells.old) cells.old cells.new) }
+    ensures known { OnOk result (MarksKnowing (λ b. meaning (b.vtable, b.value)) watch.new.waits (length cells.old) cells.new) }
     ensures err { IfErr result (λ f. SomeFailed f cells.new) }
-    ensures end { IfErr result (λ f. f ≡ stamp_end → EachIs (λ c. fault_in c ≡ None) cells.old
-        → AreBrokenOff (λ b. meaning (b.vtable, b.value)) HasGoneOn visit_limit (states_of (λ b. meaning (b.vtable, b.value)) cells.old) cells.new) }
+    ensures left { IfErr result (λ f. EachIs (λ c. fault_in c ≡ None) cells.old
+        → ArePartlyPlayed (λ b. meaning (b.vtable, b.value)) f HasGoneOn visit_limit 1
+        (states_of (λ b. meaning (b.vtable, b.value)) cells.old) cells.new) }
 {
     let mut taken = 0;
     let mut from = 0;
@@ -195,8 +207,9 @@ fn visit_waiting<G: Gate>(
 }
 
 /// Visits the cell at this place, if it has not ended, takes its mark away, and marks each agent to
-/// which the visit sends something. If an unmarked cell knows all that waits for it (`known`), and
-/// that is nothing, there is no visit. Returns how many messages were taken.
+/// which the visit sends something, and the cell again if it still knows of something. If an
+/// unmarked cell knows all that waits for it (`known`), and that is nothing, there is no visit.
+/// Returns how many messages were taken.
 fn visit_once<G: Gate>(
     gate: &G,
     known: bool,
@@ -211,9 +224,11 @@ fn visit_once<G: Gate>(
     ensures turn { OnOk result (MayBePassed (λ b. meaning (b.vtable, b.value)) known watch.old.waits place cell.old cell.new) }
     ensures marks { OnOk result (MarksReceivers place watch.old.waits watch.new.waits
         (state_of (λ b. meaning (b.vtable, b.value)) cell.old).sent (state_of (λ b. meaning (b.vtable, b.value)) cell.new).sent) }
+    ensures known { OnOk result (IsUnmarked watch.new.waits place → NeedsNoVisit (λ b. meaning (b.vtable, b.value)) cell.new) }
     ensures err { IfErr result (λ f. fault_in cell.new ≡ Some f) }
-    ensures end { IfErr result (λ f. f ≡ stamp_end → fault_in cell.old ≡ None
-        → HasReachedEnd (state_of (λ b. meaning (b.vtable, b.value)) cell.old) (state_of (λ b. meaning (b.vtable, b.value)) cell.new)) }
+    ensures left { IfErr result (λ f. fault_in cell.old ≡ None
+        → HasFailedVisit (λ b. meaning (b.vtable, b.value)) f
+        (state_of (λ b. meaning (b.vtable, b.value)) cell.old) cell.new) }
 {
     let marked = watch.look(place);
     if is_idle(known && !marked, cell) {
@@ -223,6 +238,7 @@ fn visit_once<G: Gate>(
         return Ok(0);
     }
     let taken = cell.visit_marking(gate, &mut watch.marks)?;
+    watch.keep_own(place, cell);
     if taken > 0 {
         watch.keep(cell);
     }

@@ -4,13 +4,12 @@ ghost use Rattle.std.specs.Prelude.{◌≡◌, ◌≤◌, ◌<◌, ◌+◌, ◌*
 ghost use Rattle.worker_laws.specs.CellRounds.{total};
 ghost use Rattle.worker_laws.specs.OneNode.{home, IsPartRound};
 ghost use Rattle.worker_laws.specs.StampCounts.{IsMoved};
-ghost use Rattle.agent_cells.specs.declared.fault.VisitFault.TheVariants.{StampEnd as stamp_end};
 ghost use Rattle.agent_cells.specs.State.{fault_in};
 ghost use Rattle.agent_workers.specs.Joined.{states_of, EachIs, EachBecomes, HasBegun, IsSameCell, AreCellsJoined};
 ghost use Rattle.agent_workers.specs.Turns.{sprint_limit, SomeFailed};
 ghost use Rattle.agent_workers.specs.Watched.{IsTurnRound};
 ghost use Rattle.agent_workers.specs.Shared.{IsSharedRound};
-ghost use Rattle.agent_workers.specs.Broken.{AreBrokenOff};
+ghost use Rattle.agent_workers.specs.Broken.{ArePartlyPlayed};
 
 use crate::play::play_cells;
 use crate::settle::settle_all;
@@ -34,12 +33,15 @@ pub type CellsList = Vec<Cell>;
 ///
 /// The clause `parts` says in which parts the cells were played, and whom the turns of each part
 /// visit. A part that has not all cells visits each of them in each turn. A single part passes over
-/// a cell only if nothing was sent to it since the turn before came to its place; in the first
-/// turn, only if nothing was sent to it in this turn and it knows of nothing. The clause `turns`
-/// says this of one worker. What one part sends to another during a turn has no place in the order
-/// of the visits, so no clause speaks of it.
+/// a cell only if it knows of nothing, and nothing was sent to it since the turn before came to its
+/// place, or, in the first turn, in this turn. The clause `turns` says this of one worker. What one
+/// part sends to another during a turn has no place in the order of the visits, so no clause speaks
+/// of it.
 ///
-/// After a fault the cells are as their visits left them, and a cell has failed with this fault.
+/// After a fault a cell has failed with this fault. If none had failed before the round, the clause
+/// `left` says how the cells are left. Each that has not failed is as some activations leave it. At
+/// most one for each worker has failed. Of a cell whose visit ran out of memory, the clause says only
+/// that its agent is still the one that was made.
 pub fn round<R: Threads + Sync, G: Gate>(
     rt: &R,
     cells: &mut CellsList,
@@ -61,11 +63,14 @@ pub fn round<R: Threads + Sync, G: Gate>(
     ensures most { IfOk result (λ n. n ≤ length cells.old.items * sprint_limit) }
     ensures fine { OnOk result (EachBecomes (λ a b. fault_in a ≡ None → fault_in b ≡ None) cells.old.items cells.new.items) }
     ensures err { IfErr result (λ f. SomeFailed f cells.new.items) }
+    ensures left { IfErr result (λ f. EachIs (λ c. fault_in c ≡ None) cells.old.items
+        → ArePartlyPlayed (λ b. meaning (b.vtable, b.value)) f IsMoved sprint_limit workers
+        (states_of (λ b. meaning (b.vtable, b.value)) cells.old.items) cells.new.items) }
 {
     play_round(rt, cells.as_mut_slice(), nodes, workers, gate)
 }
 
-/// [`round`] on a slice. It also says how the cells are left if stamps have ended.
+/// [`round`] on a slice.
 pub fn play_round<R: Threads + Sync, G: Gate>(
     rt: &R,
     cells: &mut [Cell],
@@ -87,8 +92,9 @@ pub fn play_round<R: Threads + Sync, G: Gate>(
     ensures most { IfOk result (λ n. n ≤ length cells.old * sprint_limit) }
     ensures fine { OnOk result (EachBecomes (λ a b. fault_in a ≡ None → fault_in b ≡ None) cells.old cells.new) }
     ensures err { IfErr result (λ f. SomeFailed f cells.new) }
-    ensures end { IfErr result (λ f. f ≡ stamp_end → EachIs (λ c. fault_in c ≡ None) cells.old
-        → AreBrokenOff (λ b. meaning (b.vtable, b.value)) IsMoved sprint_limit (states_of (λ b. meaning (b.vtable, b.value)) cells.old) cells.new) }
+    ensures left { IfErr result (λ f. EachIs (λ c. fault_in c ≡ None) cells.old
+        → ArePartlyPlayed (λ b. meaning (b.vtable, b.value)) f IsMoved sprint_limit workers
+        (states_of (λ b. meaning (b.vtable, b.value)) cells.old) cells.new) }
 {
     let size = cells.len().div_ceil(workers as usize).max(1);
     let waiting = settle_all(cells, nodes, size);

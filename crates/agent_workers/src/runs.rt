@@ -1,16 +1,15 @@
 //! A run of cells.
 
-ghost use Rattle.std.specs.Prelude.{◌≡◌, ◌≤◌, ◌<◌, false, true, IfOk, OnOk, IfErr, None, length};
+ghost use Rattle.std.specs.Prelude.{◌≡◌, ◌≤◌, ◌<◌, false, true, IfOk, OnOk, IfErr, OnErr, None, length};
 ghost use Rattle.std.specs.List.{list_all};
 ghost use Rattle.dcop_base.specs.Limits.{budget_limit, variable_limit};
 ghost use Rattle.protocol_steps.specs.View.{ended_of};
 ghost use Rattle.worker_laws.specs.CellRuns.{MakesARun};
 ghost use Rattle.worker_laws.specs.CellRounds.{total};
-ghost use Rattle.agent_cells.specs.declared.fault.VisitFault.TheVariants.{StampEnd as stamp_end};
 ghost use Rattle.agent_cells.specs.State.{state_of, begun_in, fault_in, IsCell};
 ghost use Rattle.agent_workers.specs.Joined.{states_of, EachIs, EachBecomes, HasBegun, IsSameCell, AreCellsJoined};
 ghost use Rattle.agent_workers.specs.Turns.{SomeFailed};
-ghost use Rattle.agent_workers.specs.Broken.{HaveBrokenOff};
+ghost use Rattle.agent_workers.specs.Broken.{HasFailedStart, HaveStartedPartly, HaveBrokenOff, HaveRunPartly};
 ghost use Rattle.agent_workers.specs.Shared.{ArePlayedShared, HaveRunShared};
 ghost use Rattle.agent_workers.specs.Run.{views_of, HasStarted, AreDulyPlayed, ArePlayedOut, AtStill, AreIdle, RestsAtStill};
 
@@ -25,8 +24,9 @@ use std::thread::{Threads, available_parallelism};
 /// Starts the agents of all cells, in order, and plays the cells in rounds in one node until the
 /// run has ended under this budget of deliveries. At most `workers` workers play a round, and no
 /// more than there are processors, but two if two are asked for. They share each round for which
-/// enough work waits, and one worker plays the others. It allocates memory; after [`NoMemory`] the
-/// cells are as their visits left them: each is still a sound cell of its agent, with its links.
+/// enough work waits, and one worker plays the others. It allocates memory. After [`NoMemory`] each
+/// cell is still a sound cell of its agent, with its links. The clause `left` says how far the starts
+/// and the rounds came: each cell that has not failed is as they leave it.
 ///
 /// The budget is compared after the start and after each round, and not within a round. The run
 /// ends, with its number of deliveries, when every agent has ended; or one has not and the
@@ -54,6 +54,8 @@ pub fn run<R: Threads + Sync, G: Gate>(
     ensures still { IfOk result (λ end. RestsAtStill budget (views_of (λ b. meaning (b.vtable, b.value)) cells.old.items)
         (states_of (λ b. meaning (b.vtable, b.value)) cells.new.items) end) }
     ensures parts { OnOk result (HaveRunShared (λ b. meaning (b.vtable, b.value)) workers budget cells.old.items cells.new.items) }
+    ensures left { OnErr result (HaveRunPartly (λ b. meaning (b.vtable, b.value)) workers budget
+        cells.old.items cells.new.items) }
 {
     run_all(rt, cells.as_mut_slice(), workers, budget, gate)
 }
@@ -79,6 +81,8 @@ fn run_all<R: Threads + Sync, G: Gate>(
     ensures still { IfOk result (λ end. RestsAtStill budget (views_of (λ b. meaning (b.vtable, b.value)) cells.old)
         (states_of (λ b. meaning (b.vtable, b.value)) cells.new) end) }
     ensures parts { OnOk result (HaveRunShared (λ b. meaning (b.vtable, b.value)) workers budget cells.old cells.new) }
+    ensures left { OnErr result (HaveRunPartly (λ b. meaning (b.vtable, b.value)) workers budget
+        cells.old cells.new) }
 {
     begin_all(cells)?;
     match play_out(rt, cells, workers, budget, gate) {
@@ -118,7 +122,8 @@ fn play_out<R: Threads + Sync, G: Gate>(
         (states_of (λ b. meaning (b.vtable, b.value)) cells.new))) }
     ensures parts { OnOk result (ArePlayedShared (λ b. meaning (b.vtable, b.value)) workers budget cells.old cells.new) }
     ensures err { IfErr result (λ f. SomeFailed f cells.new) }
-    ensures end { IfErr result (λ f. f ≡ stamp_end → HaveBrokenOff (λ b. meaning (b.vtable, b.value)) budget (states_of (λ b. meaning (b.vtable, b.value)) cells.old) cells.new) }
+    ensures left { IfErr result (λ f. HaveBrokenOff (λ b. meaning (b.vtable, b.value)) f workers budget
+        (states_of (λ b. meaning (b.vtable, b.value)) cells.old) cells.new) }
 {
     let mut deliveries = 0;
     if all_ended(cells) {
@@ -166,14 +171,16 @@ pub fn all_ended(cells: &[Cell]) -> bool
     cells.iter().all(has_ended)
 }
 
-/// Starts the agents of all cells, in order. It allocates memory; after [`NoMemory`] some agents
-/// may have started, and each cell is still sound.
+/// Starts the agents of all cells, in order. It allocates memory. After [`NoMemory`] each cell is
+/// still sound: the first agents have started, the start of the next one has failed, and no other
+/// cell has changed.
 pub fn begin_all(cells: &mut [Cell]) -> Result<(), NoMemory>
     requires sound { EachIs (λ c. IsCell (λ b. meaning (b.vtable, b.value)) c) cells.old }
     requires fresh { EachIs (λ c. begun_in c ≡ false) cells.old }
     ensures same { EachBecomes (λ a b. IsSameCell a b) cells.old cells.new }
     ensures sound { EachIs (λ c. IsCell (λ b. meaning (b.vtable, b.value)) c) cells.new }
     ensures started { OnOk result (EachBecomes (λ a b. HasStarted (λ b. meaning (b.vtable, b.value)) a b) cells.old cells.new) }
+    ensures left { OnErr result (HaveStartedPartly (λ b. meaning (b.vtable, b.value)) cells.old cells.new) }
 {
     for cell in cells.iter_mut() {
         begin_once(cell)?;
@@ -188,6 +195,7 @@ fn begin_once(cell: &mut Cell) -> Result<(), NoMemory>
     ensures same { IsSameCell cell.old cell.new }
     ensures sound { IsCell (λ b. meaning (b.vtable, b.value)) cell.new }
     ensures started { OnOk result (HasStarted (λ b. meaning (b.vtable, b.value)) cell.old cell.new) }
+    ensures failed { OnErr result (HasFailedStart (λ b. meaning (b.vtable, b.value)) cell.old cell.new) }
 {
     cell.begin()
 }

@@ -4,7 +4,7 @@ ghost use Rattle.std.specs.Prelude.{◌≡◌, ◌≢◌, ◌≤◌, ◌<◌, �
 ghost use Rattle.dcop_base.specs.Limits.{variable_limit};
 ghost use Rattle.worker_laws.specs.Cells.{peers};
 ghost use Rattle.agent_cells.specs.State.{state_of};
-ghost use Rattle.agent_workers.specs.Watched.{IsUnmarked, AreCellsUnmarked};
+ghost use Rattle.agent_workers.specs.Watched.{IsUnmarked, AreCellsUnmarked, KnowsOfNone};
 
 use agent_cells::Cell;
 use dcop_base::MAX_VARIABLES;
@@ -19,7 +19,8 @@ const WORDS: usize = 16;
 /// agent. A cell is marked if its bit in `waits` is set.
 #[derive(Drop)]
 pub(crate) struct Watch {
-    // Whether something was sent to it since its last visit, with one bit for each cell.
+    // Whether something was sent to it since its last visit, or that visit left something that it
+    // knows of, with one bit for each cell.
     pub(crate) waits: [u64; WORDS],
     // Whether the current visit, if there is one, sends something to it.
     pub(crate) marks: [bool; MAX_VARIABLES],
@@ -92,6 +93,17 @@ impl Watch {
         place < MAX_VARIABLES && self.waits[place / BITS] >> (place % BITS) & 1 != 0
     }
 
+    /// Marks the visited cell at this place, unless it rests.
+    pub(crate) fn keep_own(&mut self, place: usize, cell: &Cell)
+        ensures kept { (k : ℕ) → IsUnmarked self.new.waits k → IsUnmarked self.old.waits k }
+        ensures marks { self.new.marks ≡ self.old.marks }
+        ensures rests { place < variable_limit → IsUnmarked self.new.waits place → KnowsOfNone (λ b. meaning (b.vtable, b.value)) cell.now }
+    {
+        if !cell.rests() {
+            self.mark(place);
+        }
+    }
+
     /// Marks the neighbours of this cell to which its visit sent something.
     pub(crate) fn keep(&mut self, cell: &Cell)
         ensures kept { (k : ℕ) → IsUnmarked self.new.waits k → IsUnmarked self.old.waits k }
@@ -114,6 +126,17 @@ impl Watch {
     {
         if place < MAX_VARIABLES && self.marks[place] {
             self.marks[place] = false;
+            self.mark(place);
+        }
+    }
+
+    /// Marks this place.
+    fn mark(&mut self, place: usize)
+        ensures kept { (k : ℕ) → IsUnmarked self.new.waits k → IsUnmarked self.old.waits k }
+        ensures marks { self.new.marks ≡ self.old.marks }
+        ensures here { place < variable_limit → IsUnmarked self.new.waits place → ⊥ }
+    {
+        if place < MAX_VARIABLES {
             self.waits[place / BITS] |= 1 << (place % BITS);
         }
     }

@@ -1,15 +1,23 @@
 -- Wires that are used in turn.
 use Rattle.std.specs.Prelude.{◌≡◌, ℕ, ◌≤◌, List, ◌++◌, length, Result, Ok, Err}
 use Rattle.wire_pump.specs.Wire.{Told}
-use Rattle.wire_pump.specs.Ends.{CountsLater}
+use Rattle.wire_pump.specs.Ends.{start_of, CountsLater}
+use Rattle.wire_pump.specs.Pump.{HasPassed}
 use Rattle.worker_laws.specs.Cells.{EachAre}
 use Rattle.node_exchange.specs.declared.fault.PassFault.{PassFault}
 use Rattle.node_exchange.specs.declared.fault.PassFault.TheVariants.{Failed, Bytes, NoMemory}
 
 module _ {W : Type 0} (told : W → Told) (is_joined : W → W → Type 0) where
-  -- the same pair of wires later: their faults are as they were, their counts of waits did not
-  -- fall, and wires that were joined still are
+  -- the same pair of wires later: each has sent these bytes more, and as many were received at the
+  -- other; their faults are as they were, their counts of waits did not fall, and wires that were
+  -- joined still are
   pub record IsPairLater (before after : W × W) : Type 0 where
+    pub to_second : List ℕ
+    pub at_second : List ℕ
+    pub there : HasPassed (start_of (told before.0) (told before.1)) (told after.0) (told after.1) to_second at_second
+    pub to_first : List ℕ
+    pub at_first : List ℕ
+    pub back : HasPassed (start_of (told before.1) (told before.0)) (told after.1) (told after.0) to_first at_first
     pub first : CountsLater (told before.0) (told after.0)
     pub second : CountsLater (told before.1) (told after.1)
     pub joined : is_joined before.0 before.1 → is_joined after.0 after.1

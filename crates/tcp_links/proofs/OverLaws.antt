@@ -35,7 +35,7 @@ use Rattle.agent_cells.specs.State.{state_of, fault_in, tails_in, heads_in}
 use Rattle.agent_workers.specs.Joined.{states_of, EachIs, EachBecomes, IsSameCell, AreCellsJoined}
 use Rattle.agent_workers.specs.Settled.{StaysQuiet}
 use Rattle.agent_workers.specs.Turns.{sprint_limit, SomeFailed}
-use Rattle.agent_workers.specs.Broken.{StandsOrEnds, AreBrokenOff}
+use Rattle.agent_workers.specs.Broken.{StandsOrFails, ArePartlyPlayed}
 use Rattle.agent_workers.specs.Run.{AreBusy, AreDue, EndIdle}
 use Rattle.agent_workers.proofs.ListLaws.{one_at}
 use Rattle.agent_workers.proofs.JoinLaws.{stood, sent_peers, taken_peers, quiet_same, joined_still}
@@ -192,16 +192,16 @@ module _ {X : Type 0} {F : X → Type 0} (M : DynBox X Global F → View) where
   pub joined_quiet : (nodes : ℕ) (before after : List (Cell X F)) → AreCellsJoined M nodes before → EachBecomes (StaysQuiet M) before after → AreCellsJoined M nodes after
   joined_quiet nodes before after j q = joined_still M nodes before after j (quiet_same M before after q)
 
-  only_taken : (s : CellState) (c : Cell X F) → StandsOrEnds M s c → HasOnlyTaken s (state_of M c)
+  only_taken : (s : CellState) (c : Cell X F) → StandsOrFails M StampEnd s c → HasOnlyTaken s (state_of M c)
   only_taken s c (inl e) = record {
     gains = [];
     senders = All-nil (IsFrom (peers s.taken));
     taken = ap (λ (t : CellState). t.taken) e.0 ∙ sym (grown_none s.taken);
     sent = ap (λ (t : CellState). t.sent) e.0;
   }
-  only_taken s c (inr r) = record { gains = r.gains; senders = r.senders; taken = r.taken; sent = r.sent }
+  only_taken s c (inr failed) = let r = failed.2.end (failed.1 refl) in record { gains = r.gains; senders = r.senders; taken = r.taken; sent = r.sent }
 
-  each_only : (ss : List CellState) (cells : List (Cell X F)) → EachAre (StandsOrEnds M) ss cells → EachAre HasOnlyTaken ss (states_of M cells)
+  each_only : (ss : List CellState) (cells : List (Cell X F)) → EachAre (StandsOrFails M StampEnd) ss cells → EachAre HasOnlyTaken ss (states_of M cells)
   each_only [] [] h = tt
   each_only [] (c ∷ cells) h = absurd h
   each_only (s ∷ ss) [] h = absurd h
@@ -305,9 +305,9 @@ module _ {X : Type 0} {F : X → Type 0} (M : DynBox X Global F → View) where
           fine = fine;
         }
 
-    pub broken_made : (before after last : NodePlan W) (cells ready now : List (Cell X F)) → HasExchanged M before cells after ready → last.kept.items ≡ after.kept.items → AreBrokenOff M IsMoved sprint_limit (states_of M ready) now
+    pub broken_made : (workers : ℕ) (before after last : NodePlan W) (cells ready now : List (Cell X F)) → HasExchanged M before cells after ready → last.kept.items ≡ after.kept.items → ArePartlyPlayed M StampEnd IsMoved sprint_limit workers (states_of M ready) now
         → SomeFailed StampEnd now → HasBrokenRound M before cells last now
-    broken_made before after last cells ready now x kept b failed =
+    broken_made workers before after last cells ready now x kept b failed =
         record { ready = states_of M ready; exchange = subst (λ (ws : List Wire). IsExchange (home before.nodes before.agents) before.kept.items ws (states_of M cells) (states_of M ready)) (sym kept) x.exchange; stood = b.stood; moved = b.gone; most = b.most; came = b.came; failed = failed }
 
     -- a byte that an exchange finds to differ, behind these rounds

@@ -29,7 +29,7 @@ use Rattle.agent_cells.specs.declared.fault.VisitFault.TheVariants.{StampEnd}
 use Rattle.agent_cells.specs.State.{state_of}
 use Rattle.agent_workers.specs.Joined.{states_of, EachBecomes, IsSameCell, AreCellsJoined}
 use Rattle.agent_workers.specs.Settled.{HaveSettled}
-use Rattle.agent_workers.specs.Broken.{StandsOrEnds}
+use Rattle.agent_workers.specs.Broken.{StandsOrFails}
 use Rattle.agent_workers.specs.Run.{views_of, HasStarted, AreDulyPlayed, RestsAtStill}
 use Rattle.agent_workers.proofs.ListLaws.{map_back, each_are}
 use Rattle.agent_workers.proofs.JoinLaws.{joined_still}
@@ -174,10 +174,11 @@ module _ {X : Type 0} {F : X → Type 0} (M : DynBox X Global F → View) where
       → HasBrokenOver M node budget count begun started wires now → IsNodeEnd node wires more (states_of M now) last → HaveHeld more → ⊥
   never_breaks node budget count made begun wires more started now last starts b end held =
       let f = b.failed in
-      let s = each_back (StandsOrEnds M) b.stood now b.came f.place f.cell f.at in
+      let s = each_back (StandsOrFails M StampEnd) b.stood now b.came f.place f.cell f.at in
       elim s.2 [
         | inl fine ↦ none-some StampEnd (sym (sym f.is ∙ fine.1))
-        | inr r ↦
+        | inr own ↦
+            let r = own.2.end (own.1 refl) in
             let low = node_stamps_are_few node budget made begun wires more started b.stood (states_of M now) last starts b.broken end held f.place s.0 (state_of M f.cell) r.gains s.1
             (map_at (state_of M) now f.place f.cell f.at) r.senders r.taken in
             let most = low.1 in

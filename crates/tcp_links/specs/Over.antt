@@ -20,7 +20,7 @@ use Rattle.agent_cells.specs.State.{fault_in}
 use Rattle.agent_cells.specs.declared.fault.VisitFault.TheVariants.{StampEnd}
 use Rattle.agent_workers.specs.Joined.{states_of, EachIs}
 use Rattle.agent_workers.specs.Turns.{sprint_limit, SomeFailed}
-use Rattle.agent_workers.specs.Broken.{StandsOrEnds}
+use Rattle.agent_workers.specs.Broken.{StandsOrFails}
 use Rattle.agent_workers.specs.Run.{AreDue, EndIdle, AtStill}
 use Rattle.dcop_base.specs.Limits.{amount_limit}
 use Rattle.tcp_links.specs.declared.plan.NodePlan.{NodePlan}
@@ -110,7 +110,7 @@ module _ {X : Type 0} {F : X → Type 0} where
     pub stood : List CellState
     pub broken : AreBrokenOver node budget begun started wires stood (states_of meaning now)
     pub counted : length broken.played.rounds + 1 ≡ count
-    pub came : EachAre (StandsOrEnds meaning) stood now
+    pub came : EachAre (StandsOrFails meaning StampEnd) stood now
     pub few : total stood < amount_limit
     pub failed : SomeFailed StampEnd now
 
@@ -129,7 +129,7 @@ module _ {X : Type 0} {F : X → Type 0} where
     pub stood : List CellState
     pub moved : EachAre IsMoved ready stood
     pub most : total stood ≤ total ready + length ready * sprint_limit
-    pub came : EachAre (StandsOrEnds meaning) stood now
+    pub came : EachAre (StandsOrFails meaning StampEnd) stood now
     pub failed : SomeFailed StampEnd now
 
   abbrev pub IsRoundOver : {W : Type 0} → (DynBox X Global F → View) → NodePlan W → List (Cell X F) → NodePlan W → List (Cell X F) → Option ℕ → Type 0

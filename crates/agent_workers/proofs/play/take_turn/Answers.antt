@@ -11,3 +11,6 @@ returns-clause-ok g c = rw c.if-all.false c.visit_waiting.ensures.ok
 
 pub returns-clause-turn : goal.returns-clause-turn
 returns-clause-turn g c = rw c.if-all.false (c.visit_waiting.ensures.turn c.args.alone)
+
+pub visit_waiting-requires-clause-known : goal.visit_waiting-requires-clause-known
+visit_waiting-requires-clause-known g c κs within = c.requires.known c.if-all.false

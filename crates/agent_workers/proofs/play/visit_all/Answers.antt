@@ -1,16 +1,15 @@
-use Rattle.std.proofs.Common.{◌≡◌, true, None, inl, inr, refl, set, arith}
-use Rattle.agent_cells.specs.declared.fault.VisitFault.TheVariants.{StampEnd}
+use Rattle.std.proofs.Common.{◌≡◌, true, None, ◌+◌, inl, inr, refl, set, arith}
 use Rattle.agent_cells.specs.State.{fault_in}
 use Rattle.agent_workers.specs.Joined.{states_of, EachIs}
 use Rattle.agent_workers.specs.Turns.{visit_limit}
-use Rattle.agent_workers.specs.Broken.{HasGoneOn, AreBrokenOff}
-use Rattle.agent_workers.proofs.BreakLaws.{err_on, turn_broken}
+use Rattle.agent_workers.specs.Broken.{HasGoneOn, ArePartlyPlayed}
+use Rattle.agent_workers.proofs.BreakLaws.{err_on, turn_left}
 use Rattle.agent_workers.proofs.PlayLaws.{turn_none, turn_more, turn_ready, ready_at, failed_set, failed_on}
-use Rattle.agent_workers.proofs.TurnLaws.{waiting_none, waiting_more, waiting_past, passing_none, passing_more, passing_all}
+use Rattle.agent_workers.proofs.TurnLaws.{waiting_none, waiting_more, waiting_past, knowing_set, passing_none, passing_more, passing_all}
 use Rattle.agent_workers.proofs.play.visit_all.Goals as goal
 
 pub loop-place-init : goal.loop-place-init
-loop-place-init g c = (turn_none (λ b. (goal.Machine-dyn g (b.vtable, b.value)).meaning b.value) true c.args.cells.now c.requires.ready, waiting_none (λ b. (goal.Machine-dyn g (b.vtable, b.value)).meaning b.value) c.args.watch.now.waits c.args.cells.now, passing_none (λ b. (goal.Machine-dyn g (b.vtable, b.value)).meaning b.value) true c.args.settled c.args.watch.now.waits c.args.cells.now)
+loop-place-init g c = (turn_none (λ b. (goal.Machine-dyn g (b.vtable, b.value)).meaning b.value) true c.args.cells.now c.requires.ready, waiting_none (λ b. (goal.Machine-dyn g (b.vtable, b.value)).meaning b.value) c.args.watch.now.waits c.args.cells.now, passing_none (λ b. (goal.Machine-dyn g (b.vtable, b.value)).meaning b.value) true c.args.settled c.args.watch.now.waits c.args.cells.now, λ i d at lt un. absurd (omega (arith, lt)))
 
 pub visit_once-requires-clause-ready : goal.visit_once-requires-clause-ready
 visit_once-requires-clause-ready g c κs within =
@@ -33,6 +32,8 @@ loop-place-preserved g c = (
       (let size = c.loop-place.invariant.0.ready.size in let few = c.requires.few in omega (arith, size, few)) c.loop-place.invariant.0.ready.size c.loop-place.invariant.0.rest c.loop-place.invariant.1 c.in_ok-taken.ensures.marks,
   passing_more (λ b. (goal.Machine-dyn g (b.vtable, b.value)).meaning b.value) true c.args.settled c.args.watch.now.waits c.loop-place.watch.waits c.visit_once.new.watch.waits c.loop-place.place c.args.cells.now c.loop-place.cells c.index-cells-place.result c.visit_once.new.cell (let test = c.loop-place-test.true in let size = c.loop-place.invariant.0.ready.size in omega (arith, test, size))
       (let size = c.loop-place.invariant.0.ready.size in let few = c.requires.few in omega (arith, size, few)) c.loop-place.invariant.0.ready.size c.loop-place.invariant.0.rest c.in_ok-taken.ensures.marks (inr (refl, c.in_ok-taken.ensures.turn)) c.loop-place.invariant.2,
+  knowing_set (λ b. (goal.Machine-dyn g (b.vtable, b.value)).meaning b.value) c.loop-place.watch.waits c.visit_once.new.watch.waits c.loop-place.place c.loop-place.place (c.loop-place.place + 1) c.loop-place.cells c.visit_once.new.cell (let test = c.loop-place-test.true in let size = c.loop-place.invariant.0.ready.size in omega (arith, test, size))
+      (λ i lt other. omega (arith, lt, other)) c.in_ok-taken.ensures.marks.kept c.in_ok-taken.ensures.known c.loop-place.invariant.3,
 )
 
 pub returns-clause-turn : goal.returns-clause-turn
@@ -41,7 +42,10 @@ returns-clause-turn g c = passing_all (λ b. (goal.Machine-dyn g (b.vtable, b.va
 pub returns-clause-marks : goal.returns-clause-marks
 returns-clause-marks g c = waiting_past (λ b. (goal.Machine-dyn g (b.vtable, b.value)).meaning b.value) c.loop-place.watch.waits c.loop-place.place _ c.args.cells.now c.loop-place.cells c.loop-place.invariant.0.ready.size c.loop-place.invariant.0.rest c.loop-place.invariant.1
 
-pub returns-in_err-taken-clause-end : goal.returns-in_err-taken-clause-end
-returns-in_err-taken-clause-end g c =
-    err_on c.from_residual.result _ (λ f. f ≡ StampEnd → EachIs (λ c. fault_in c ≡ None) c.args.cells.now → AreBrokenOff (λ b. (goal.Machine-dyn g (b.vtable, b.value)).meaning b.value) HasGoneOn visit_limit (states_of (λ b. (goal.Machine-dyn g (b.vtable, b.value)).meaning b.value) c.args.cells.now) (set c.loop-place.cells c.loop-place.place c.visit_once.new.cell)) c.from_residual.ensures.1
-    (λ is fine. turn_broken (λ b. (goal.Machine-dyn g (b.vtable, b.value)).meaning b.value) true c.loop-place.place c.loop-place.taken c.args.cells.now c.loop-place.cells c.index-cells-place.result c.visit_once.new.cell c.loop-place.invariant.0 (let test = c.loop-place-test.true in let size = c.loop-place.invariant.0.ready.size in omega (arith, test, size)) (c.in_err-taken.ensures.end is) fine)
+pub returns-in_err-taken-clause-left : goal.returns-in_err-taken-clause-left
+returns-in_err-taken-clause-left g c =
+    err_on c.from_residual.result _ (λ f. EachIs (λ c. fault_in c ≡ None) c.args.cells.now → ArePartlyPlayed (λ b. (goal.Machine-dyn g (b.vtable, b.value)).meaning b.value) f HasGoneOn visit_limit 1 (states_of (λ b. (goal.Machine-dyn g (b.vtable, b.value)).meaning b.value) c.args.cells.now) (set c.loop-place.cells c.loop-place.place c.visit_once.new.cell)) c.from_residual.ensures.1
+    (λ fine. turn_left (λ b. (goal.Machine-dyn g (b.vtable, b.value)).meaning b.value) true c.loop-place.place c.loop-place.taken _ c.args.cells.now c.loop-place.cells c.index-cells-place.result c.visit_once.new.cell c.loop-place.invariant.0 (let test = c.loop-place-test.true in let size = c.loop-place.invariant.0.ready.size in omega (arith, test, size)) c.in_err-taken.ensures.left fine)
+
+pub returns-clause-known : goal.returns-clause-known
+returns-clause-known g c = λ i d at lt un. c.loop-place.invariant.3 i d at (let test = c.loop-place-test.false in let size = c.loop-place.invariant.0.ready.size in omega (arith, test, size, lt)) un

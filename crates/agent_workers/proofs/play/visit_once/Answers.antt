@@ -1,5 +1,8 @@
-use Rattle.std.proofs.Common.{refl, sym, ◌∙◌, inl, inr}
+use Rattle.std.proofs.Common.{refl, sym, subst, ◌∙◌, inl, inr, arith}
+use Rattle.agent_cells.specs.Marked.{LeavesUnmarked}
+use Rattle.agent_cells.specs.State.{state_of}
 use Rattle.agent_workers.proofs.CellLaws.{idle_turn, ended_once, not_true, not_both}
+use Rattle.agent_workers.proofs.PlayLaws.{visited_ready}
 use Rattle.agent_workers.proofs.SentLaws.{visit_marks, quiet_marks}
 use Rattle.agent_workers.proofs.play.visit_once.Goals as goal
 use Rattle.agent_workers.proofs.play.visit_once.Goals.{then-known, else-known}
@@ -15,8 +18,19 @@ returns-then-ended-clause-marks g c = quiet_marks (λ b. (goal.Machine-dyn g (b.
 
 pub returns-then-taken-gt0-clause-marks : goal.returns-then-taken-gt0-clause-marks
 returns-then-taken-gt0-clause-marks g c =
-    visit_marks (λ b. (goal.Machine-dyn g (b.vtable, b.value)).meaning b.value) c.args.place c.args.watch.now.waits c.look-marked.new.self.waits c.keep.new.self.waits c.visit_marking.new.marks c.args.cell.now c.visit_marking.new.self c.visit_marking.ensures.links c.visit_marking.ensures.cell c.look-marked.ensures.kept
-    c.in_ok-taken.ensures.marked c.keep.ensures.kept c.keep.ensures.sent
+    visit_marks (λ b. (goal.Machine-dyn g (b.vtable, b.value)).meaning b.value) c.args.place c.args.watch.now.waits c.keep_own.new.self.waits c.keep.new.self.waits c.keep_own.new.self.marks c.args.cell.now c.visit_marking.new.self c.visit_marking.ensures.links c.visit_marking.ensures.cell
+    (λ k other un. c.look-marked.ensures.kept k other (c.keep_own.ensures.kept k un))
+    (subst (λ marks. LeavesUnmarked marks (state_of (λ b. (goal.Machine-dyn g (b.vtable, b.value)).meaning b.value) c.args.cell.now).sent (state_of (λ b. (goal.Machine-dyn g (b.vtable, b.value)).meaning b.value) c.visit_marking.new.self).sent) (sym c.keep_own.ensures.marks) c.in_ok-taken.ensures.marked)
+    c.keep.ensures.kept c.keep.ensures.sent
+
+pub returns-then-taken-gt0-clause-known : goal.returns-then-taken-gt0-clause-known
+returns-then-taken-gt0-clause-known g c = λ un. inr (c.keep_own.ensures.rests c.requires.inside (c.keep.ensures.kept c.args.place un))
+
+pub returns-then-is_idle-clause-known : goal.returns-then-is_idle-clause-known
+returns-then-is_idle-clause-known g c = λ un. inr (record { none = c.is_idle.ensures.none c.if-is_idle.true })
+
+pub returns-then-ended-clause-known : goal.returns-then-ended-clause-known
+returns-then-ended-clause-known g c = λ un. inl (sym c.ended.ensures ∙ c.if-ended.true)
 
 pub returns-then-is_idle-clause-turn : goal.returns-then-is_idle-clause-turn
 returns-then-is_idle-clause-turn g c =
@@ -28,3 +42,12 @@ returns-then-is_idle-clause-turn g c =
 
 pub returns-then-ended-clause-turn : goal.returns-then-ended-clause-turn
 returns-then-ended-clause-turn g c = inl (ended_once (λ b. (goal.Machine-dyn g (b.vtable, b.value)).meaning b.value) c.args.cell.now (sym c.ended.ensures ∙ c.if-ended.true))
+
+pub returns-then-taken-gt0-clause-ready : goal.returns-then-taken-gt0-clause-ready
+returns-then-taken-gt0-clause-ready g c = visited_ready (λ b. (goal.Machine-dyn g (b.vtable, b.value)).meaning b.value) c.args.cell.now c.visit_marking.new.self c.requires.ready c.visit_marking.ensures.me c.visit_marking.ensures.links c.visit_marking.ensures.cell c.visit_marking.ensures.begun
+
+pub returns-else-taken-gt0-clause-marks : goal.returns-else-taken-gt0-clause-marks
+returns-else-taken-gt0-clause-marks g c =
+    let none = c.if-taken-gt0.false in
+    quiet_marks (λ b. (goal.Machine-dyn g (b.vtable, b.value)).meaning b.value) c.args.place c.args.watch.now.waits c.keep_own.new.self.waits c.args.cell.now c.visit_marking.new.self
+    (λ k other un. c.look-marked.ensures.kept k other (c.keep_own.ensures.kept k un)) (c.in_ok-taken.ensures.ok.idle (omega (arith, none))).sent

@@ -1,17 +1,16 @@
 use Rattle.std.proofs.Common.{◌≡◌, false, None, length, subst, inl, set, arith}
-use Rattle.agent_cells.specs.declared.fault.VisitFault.TheVariants.{StampEnd}
 use Rattle.agent_cells.specs.State.{fault_in}
 use Rattle.agent_workers.specs.Joined.{states_of, EachIs}
 use Rattle.agent_workers.specs.Turns.{visit_limit}
-use Rattle.agent_workers.specs.Broken.{HasGoneOn, AreBrokenOff}
-use Rattle.agent_workers.proofs.BreakLaws.{err_on, turn_broken}
+use Rattle.agent_workers.specs.Broken.{HasGoneOn, ArePartlyPlayed}
+use Rattle.agent_workers.proofs.BreakLaws.{err_on, turn_left}
 use Rattle.agent_workers.proofs.PlayLaws.{turn_none, turn_more, turn_past, turn_ready, ready_at, failed_set, failed_on}
 use Rattle.agent_workers.specs.Watched.{AreCellsUnmarked}
-use Rattle.agent_workers.proofs.TurnLaws.{waiting_none, waiting_more, waiting_past, passing_none, passing_past, passing_more, visited_only}
+use Rattle.agent_workers.proofs.TurnLaws.{waiting_none, waiting_more, waiting_past, knowing_set, passing_none, passing_past, passing_more, visited_only}
 use Rattle.agent_workers.proofs.play.visit_waiting.Goals as goal
 
 pub loop-place-init : goal.loop-place-init
-loop-place-init g c = (turn_none (λ b. (goal.Machine-dyn g (b.vtable, b.value)).meaning b.value) false c.args.cells.now c.requires.ready, omega arith, waiting_none (λ b. (goal.Machine-dyn g (b.vtable, b.value)).meaning b.value) c.args.watch.now.waits c.args.cells.now, λ alone. passing_none (λ b. (goal.Machine-dyn g (b.vtable, b.value)).meaning b.value) false alone c.args.watch.now.waits c.args.cells.now)
+loop-place-init g c = (turn_none (λ b. (goal.Machine-dyn g (b.vtable, b.value)).meaning b.value) false c.args.cells.now c.requires.ready, omega arith, waiting_none (λ b. (goal.Machine-dyn g (b.vtable, b.value)).meaning b.value) c.args.watch.now.waits c.args.cells.now, λ alone. passing_none (λ b. (goal.Machine-dyn g (b.vtable, b.value)).meaning b.value) false alone c.args.watch.now.waits c.args.cells.now, c.requires.known)
 
 pub visit_once-requires-clause-ready : goal.visit_once-requires-clause-ready
 visit_once-requires-clause-ready g c κs within =
@@ -36,6 +35,8 @@ loop-place-preserved g c = (
   λ alone. passing_more (λ b. (goal.Machine-dyn g (b.vtable, b.value)).meaning b.value) false alone c.args.watch.now.waits c.loop-place.watch.waits c.visit_once.new.watch.waits c.in-Some.place c.args.cells.now c.loop-place.cells c.index-cells-place.result c.visit_once.new.cell c.in-Some.ensures.within.1
       (let size = c.loop-place.invariant.0.ready.size in let few = c.requires.few in omega (arith, size, few)) c.loop-place.invariant.0.ready.size (λ j a b e f le. c.loop-place.invariant.0.rest j a b e f (let low = c.in-Some.ensures.within.0 in omega (arith, low, le))) c.in_ok-taken.ensures.marks (inl (visited_only (λ b. (goal.Machine-dyn g (b.vtable, b.value)).meaning b.value) c.loop-place.watch.waits c.in-Some.place _ _ c.in_ok-taken.ensures.turn))
       (passing_past (λ b. (goal.Machine-dyn g (b.vtable, b.value)).meaning b.value) alone c.args.watch.now.waits c.loop-place.watch.waits c.loop-place.from c.in-Some.place c.args.cells.now c.loop-place.cells c.in-Some.ensures.within.0 c.loop-place.invariant.0.ready.size c.in-Some.ensures.passed c.loop-place.invariant.0.rest (c.loop-place.invariant.3 alone)),
+  knowing_set (λ b. (goal.Machine-dyn g (b.vtable, b.value)).meaning b.value) c.loop-place.watch.waits c.visit_once.new.watch.waits c.in-Some.place (length c.args.cells.now) (length c.args.cells.now) c.loop-place.cells c.visit_once.new.cell c.in-Some.ensures.within.1
+      (λ i lt other. lt) c.in_ok-taken.ensures.marks.kept c.in_ok-taken.ensures.known c.loop-place.invariant.4,
 )
 
 pub returns-clause-ok : goal.returns-clause-ok
@@ -49,7 +50,10 @@ returns-clause-turn g c = λ alone.
 pub returns-clause-marks : goal.returns-clause-marks
 returns-clause-marks g c = waiting_past (λ b. (goal.Machine-dyn g (b.vtable, b.value)).meaning b.value) c.loop-place.watch.waits c.loop-place.from (length c.args.cells.now) c.args.cells.now c.loop-place.cells c.loop-place.invariant.0.ready.size c.loop-place.invariant.0.rest c.loop-place.invariant.2
 
-pub returns-in_err-taken-clause-end : goal.returns-in_err-taken-clause-end
-returns-in_err-taken-clause-end g c =
-    err_on c.from_residual.result _ (λ f. f ≡ StampEnd → EachIs (λ c. fault_in c ≡ None) c.args.cells.now → AreBrokenOff (λ b. (goal.Machine-dyn g (b.vtable, b.value)).meaning b.value) HasGoneOn visit_limit (states_of (λ b. (goal.Machine-dyn g (b.vtable, b.value)).meaning b.value) c.args.cells.now) (set c.loop-place.cells c.in-Some.place c.visit_once.new.cell)) c.from_residual.ensures.1
-    (λ is fine. turn_broken (λ b. (goal.Machine-dyn g (b.vtable, b.value)).meaning b.value) false c.in-Some.place c.loop-place.taken c.args.cells.now c.loop-place.cells c.index-cells-place.result c.visit_once.new.cell (turn_past (λ b. (goal.Machine-dyn g (b.vtable, b.value)).meaning b.value) c.loop-place.from c.in-Some.place c.loop-place.taken c.args.cells.now c.loop-place.cells c.in-Some.ensures.within.0 c.loop-place.invariant.0) c.in-Some.ensures.within.1 (c.in_err-taken.ensures.end is) fine)
+pub returns-in_err-taken-clause-left : goal.returns-in_err-taken-clause-left
+returns-in_err-taken-clause-left g c =
+    err_on c.from_residual.result _ (λ f. EachIs (λ c. fault_in c ≡ None) c.args.cells.now → ArePartlyPlayed (λ b. (goal.Machine-dyn g (b.vtable, b.value)).meaning b.value) f HasGoneOn visit_limit 1 (states_of (λ b. (goal.Machine-dyn g (b.vtable, b.value)).meaning b.value) c.args.cells.now) (set c.loop-place.cells c.in-Some.place c.visit_once.new.cell)) c.from_residual.ensures.1
+    (λ fine. turn_left (λ b. (goal.Machine-dyn g (b.vtable, b.value)).meaning b.value) false c.in-Some.place c.loop-place.taken _ c.args.cells.now c.loop-place.cells c.index-cells-place.result c.visit_once.new.cell (turn_past (λ b. (goal.Machine-dyn g (b.vtable, b.value)).meaning b.value) c.loop-place.from c.in-Some.place c.loop-place.taken c.args.cells.now c.loop-place.cells c.in-Some.ensures.within.0 c.loop-place.invariant.0) c.in-Some.ensures.within.1 c.in_err-taken.ensures.left fine)
+
+pub returns-clause-known : goal.returns-clause-known
+returns-clause-known g c = c.loop-place.invariant.4

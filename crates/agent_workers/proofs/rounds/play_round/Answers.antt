@@ -2,9 +2,9 @@ use Rattle.std.proofs.Common.{length, max, ap, ◌∙◌, arith}
 use Rattle.worker_laws.specs.OneNode.{home}
 use Rattle.agent_workers.proofs.SettleLaws.{settling}
 use Rattle.agent_workers.proofs.TurnLaws.{one_part_size, turn_round}
-use Rattle.agent_workers.proofs.SharedLaws.{shared_round}
+use Rattle.agent_workers.proofs.SharedLaws.{workers_hold, shared_round}
 use Rattle.std.proofs.lemmas.Result.{IfOk-weaker, IfErr-weaker}
-use Rattle.agent_workers.proofs.BreakLaws.{round_broken}
+use Rattle.agent_workers.proofs.BreakLaws.{round_left}
 use Rattle.agent_workers.proofs.RoundLaws.{sound_from, ready_mid, joined_after, begun_from, same_after, made}
 use Rattle.agent_workers.proofs.rounds.play_round.Goals as goal
 
@@ -38,8 +38,9 @@ returns-clause-fine g c = IfOk-weaker c.play_cells.result _ _ (λ n m. m.fine) (
 pub returns-clause-same : goal.returns-clause-same
 returns-clause-same g c = same_after (λ b. (goal.Machine-dyn g (b.vtable, b.value)).meaning b.value) c.args.cells.now c.settle_all-waiting.new.cells c.play_cells.new.cells c.settle_all-waiting.ensures.settled.quiet c.play_cells.ensures.ready
 
-pub returns-clause-end : goal.returns-clause-end
-returns-clause-end g c = IfErr-weaker c.play_cells.result _ _ (λ f end is. round_broken (λ b. (goal.Machine-dyn g (b.vtable, b.value)).meaning b.value) c.args.cells.now c.settle_all-waiting.new.cells c.play_cells.new.cells c.settle_all-waiting.ensures.settled.quiet (end is)) c.play_cells.ensures.end
+pub returns-clause-left : goal.returns-clause-left
+returns-clause-left g c = IfErr-weaker c.play_cells.result _ _ (λ f left. round_left (λ b. (goal.Machine-dyn g (b.vtable, b.value)).meaning b.value) f c.args.workers c.args.cells.now c.settle_all-waiting.new.cells c.play_cells.new.cells c.settle_all-waiting.ensures.settled.quiet left)
+    (c.play_cells.ensures.left c.args.workers c.requires.workers (let size = c.settle_all-waiting.ensures.settled.quiet.size in let hold = workers_hold c.args.workers c.part_size-size.result (length c.args.cells.now) c.max-size.result c.requires.workers (c.max-size.ensures ∙ ap (λ n. max n 1) c.div_ceil.ensures) c.part_size-size.ensures.least in omega (arith, size, hold)))
 
 pub returns-clause-turns : goal.returns-clause-turns
 returns-clause-turns g c one =

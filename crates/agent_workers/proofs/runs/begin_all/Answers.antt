@@ -1,5 +1,6 @@
 use Rattle.std.proofs.Common.{arith}
-use Rattle.agent_workers.proofs.RunLaws.{start_none, sound_at, fresh_at, same_more, sound_so_far, sound_more, start_more, start_all}
+use Rattle.agent_workers.proofs.BreakLaws.{left_on}
+use Rattle.agent_workers.proofs.RunLaws.{start_none, sound_at, fresh_at, same_more, sound_so_far, sound_more, start_more, start_all, start_partly}
 use Rattle.agent_workers.proofs.runs.begin_all.Goals as goal
 
 pub loop-cell-init : goal.loop-cell-init
@@ -30,3 +31,7 @@ returns-in_err-begin_once-clause-sound g c = let test = c.loop-cell-test.true in
 
 pub returns-clause-sound : goal.returns-clause-sound
 returns-clause-sound g c = sound_so_far (λ b. (goal.Machine-dyn g (b.vtable, b.value)).meaning b.value) c.loop-cell.cell-index c.args.cells.now c.loop-cell.cells c.loop-cell.invariant c.requires.sound
+
+pub returns-in_err-begin_once-clause-left : goal.returns-in_err-begin_once-clause-left
+returns-in_err-begin_once-clause-left g c = let test = c.loop-cell-test.true in let size = c.loop-cell.invariant.same.size in
+    left_on c.from_residual.result (start_partly (λ b. (goal.Machine-dyn g (b.vtable, b.value)).meaning b.value) c.loop-cell.cell-index c.args.cells.now c.loop-cell.cells c.cell-item.result c.begin_once.new.cell c.loop-cell.invariant (omega (arith, test, size)) c.in_err-begin_once.ensures.failed)

@@ -1,7 +1,8 @@
 use Rattle.std.proofs.Common.{false, sym, subst, ◌≡◌}
-use Rattle.std.specs.Prelude.{OnOk}
+use Rattle.std.specs.Prelude.{OnOk, OnErr}
 use Rattle.agent_cells.specs.State.{begun_in, IsCell}
 use Rattle.agent_cells.proofs.CellLaws.{written}
+use Rattle.agent_workers.specs.Broken.{HaveRunPartly}
 use Rattle.agent_workers.specs.Shared.{HaveRunShared}
 use Rattle.agent_workers.proofs.ListLaws.{carry}
 use Rattle.agent_workers.specs.Joined.{EachIs, EachBecomes, IsSameCell, AreCellsJoined}
@@ -24,3 +25,6 @@ returns-clause-same g c = carry (EachBecomes (λ a b. IsSameCell a b)) _ _ _ _ c
 
 pub returns-clause-sound : goal.returns-clause-sound
 returns-clause-sound g c = subst (EachIs (λ x. IsCell (λ b. (goal.Machine-dyn g (b.vtable, b.value)).meaning b.value) x)) (sym (written _ c.args.cells.now.items c.run_all.new.cells c.as_mut_slice.result.now c.args.cells.now.ok.0 c.run_all.ensures.same.size c.as_mut_slice.ensures.value)) c.run_all.ensures.sound
+
+pub returns-clause-left : goal.returns-clause-left
+returns-clause-left g c = carry (λ old new. OnErr c.run_all.result (HaveRunPartly (λ b. (goal.Machine-dyn g (b.vtable, b.value)).meaning b.value) c.args.workers c.args.budget old new)) _ _ _ _ c.as_mut_slice.ensures.value (written _ c.args.cells.now.items c.run_all.new.cells c.as_mut_slice.result.now c.args.cells.now.ok.0 c.run_all.ensures.same.size c.as_mut_slice.ensures.value) c.run_all.ensures.left

@@ -1,5 +1,8 @@
 use Rattle.std.proofs.Common.{◌∙◌, refl, subst, arith}
-use Rattle.agent_workers.specs.Turns.{SomeFailed}
+use Rattle.worker_laws.specs.StampCounts.{IsMoved}
+use Rattle.agent_workers.specs.Joined.{states_of}
+use Rattle.agent_workers.specs.Turns.{sprint_limit, SomeFailed}
+use Rattle.agent_workers.specs.Broken.{ArePartlyPlayed}
 use Rattle.agent_workers.proofs.JoinLaws.{quiet_same}
 use Rattle.agent_workers.proofs.RoundLaws.{sound_from, begun_still}
 use Rattle.agent_workers.proofs.RunLaws.{fine_still}
@@ -73,7 +76,7 @@ pub returns-in-Ok-clause-round : goal.returns-in-Ok-clause-round
 returns-in-Ok-clause-round g c = round_made (λ b. (goal.Machine-dyn g (b.vtable, b.value)).meaning b.value) c.args.plan.now c.exchange.new.plan c.args.cells.now c.exchange.new.cells c.play_round.new.cells c.in-Ok.taken c.in_ok-exchange.ensures.exchanged c.exchange.ensures.quiet c.in-Ok.ensures.round c.in-Ok.ensures.counted c.in-Ok.ensures.most (fine_still (λ b. (goal.Machine-dyn g (b.vtable, b.value)).meaning b.value) c.exchange.new.cells c.play_round.new.cells c.in-Ok.ensures.fine (fine_quiet (λ b. (goal.Machine-dyn g (b.vtable, b.value)).meaning b.value) c.args.cells.now c.exchange.new.cells c.exchange.ensures.quiet c.requires.fine))
 
 pub returns-in-Err-StampEnd-clause-round : goal.returns-in-Err-StampEnd-clause-round
-returns-in-Err-StampEnd-clause-round g c = broken_made (λ b. (goal.Machine-dyn g (b.vtable, b.value)).meaning b.value) c.args.plan.now c.exchange.new.plan _ c.args.cells.now c.exchange.new.cells c.play_round.new.cells c.in_ok-exchange.ensures.exchanged refl (c.in-Err-StampEnd.ensures.end c.in-Err-StampEnd.field-0-is (fine_quiet (λ b. (goal.Machine-dyn g (b.vtable, b.value)).meaning b.value) c.args.cells.now c.exchange.new.cells c.exchange.ensures.quiet c.requires.fine)) (subst (λ f. SomeFailed f c.play_round.new.cells) c.in-Err-StampEnd.field-0-is c.in-Err-StampEnd.ensures.err)
+returns-in-Err-StampEnd-clause-round g c = broken_made (λ b. (goal.Machine-dyn g (b.vtable, b.value)).meaning b.value) c.args.workers c.args.plan.now c.exchange.new.plan _ c.args.cells.now c.exchange.new.cells c.play_round.new.cells c.in_ok-exchange.ensures.exchanged refl (subst (λ f. ArePartlyPlayed (λ b. (goal.Machine-dyn g (b.vtable, b.value)).meaning b.value) f IsMoved sprint_limit c.args.workers (states_of (λ b. (goal.Machine-dyn g (b.vtable, b.value)).meaning b.value) c.exchange.new.cells) c.play_round.new.cells) c.in-Err-StampEnd.field-0-is (c.in-Err-StampEnd.ensures.left (fine_quiet (λ b. (goal.Machine-dyn g (b.vtable, b.value)).meaning b.value) c.args.cells.now c.exchange.new.cells c.exchange.ensures.quiet c.requires.fine))) (subst (λ f. SomeFailed f c.play_round.new.cells) c.in-Err-StampEnd.field-0-is c.in-Err-StampEnd.ensures.err)
 
 pub returns-in_err-exchange-clause-size : goal.returns-in_err-exchange-clause-size
 returns-in_err-exchange-clause-size g c = c.exchange.ensures.quiet.size
