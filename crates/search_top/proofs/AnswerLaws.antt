@@ -9,9 +9,9 @@ use Rattle.answer_io.specs.InputTold.{DeclaredInput}
 use Rattle.answer_io.proofs.RefusalLaws.{input_told}
 use Rattle.program_frame.specs.declared.reply.Reply.TheVariants.{Own, Refused}
 use Rattle.program_frame.proofs.WorkLaws.{IsSound}
-use Rattle.search_top.specs.declared.report.SearchEnding.{SearchEnding}
-use Rattle.search_top.specs.declared.report.SearchEnding.TheVariants.{Solved, Spent, NoneBetter}
-use Rattle.search_top.specs.declared.words.Asked.{Asked}
+use Rattle.search_stages.specs.declared.asked.Asked.{Asked}
+use Rattle.search_stages.specs.declared.report.SearchEnding.{SearchEnding}
+use Rattle.search_stages.specs.declared.report.SearchEnding.TheVariants.{Solved, Spent, NoneBetter}
 use Rattle.search_top.specs.Answering.{status_of_ending, IsTextReply, search_program}
 
 text-read : (asked : Asked) (read : Result DeclaredInput Answer) → ¬ (read ≡ Err answers.Read) → ¬ IsTextReply asked read (Refused answers.Read)

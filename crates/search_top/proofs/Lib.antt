@@ -1,4 +1,3 @@
-mod StageLaws
 mod OutsideLaws
 mod ReorderLaws
 mod NameLaws

@@ -5,10 +5,10 @@ use Rattle.std.proofs.lemmas.List.Elements.{length_all_zip}
 use Rattle.dcop_base.specs.Table.{AreWithin}
 use Rattle.problem_text.specs.File.{TextFile, AreLabels, IsFile}
 use Rattle.certificate_text.specs.Named.{HasWord}
+use Rattle.search_stages.specs.declared.asked.Asked.{Asked}
+use Rattle.search_stages.specs.declared.report.Found.{Found}
 use Rattle.search_top.specs.Report.{IsFoundIn}
 use Rattle.search_top.specs.Text.{AreTold}
-use Rattle.search_top.specs.declared.report.Found.{Found}
-use Rattle.search_top.specs.declared.words.Asked.{Asked}
 
 -- a value below its variable's size has its word among the value names
 HasWord-label : (size value : ℕ) (labels : List (List ℕ)) → AreLabels size labels → value < size → HasWord labels value

@@ -15,18 +15,18 @@ use Rattle.minimised_problem.specs.Goal.{solved, IsAtMostWorse}
 use Rattle.problem_order.specs.Reordered.{IsTableFor, IsReordered}
 use Rattle.problem_order.specs.Costs.{CostTheSame}
 use Rattle.shared_costs.specs.Shared.{AreSharedCosts}
-use Rattle.search_top.specs.Outcomes.{IsOutcome, TellsOutcome}
+use Rattle.search_stages.specs.Outcomes.{most_visited, IsOutcome, TellsOutcome}
+use Rattle.search_stages.specs.Stages.{AreStages}
+use Rattle.search_stages.specs.Turning.{told_sum, found_told, report_told}
+use Rattle.search_stages.specs.declared.asked.Asked.{Asked}
+use Rattle.search_stages.specs.declared.report.Found.{Found}
+use Rattle.search_stages.specs.declared.report.SearchEnding.{SearchEnding}
+use Rattle.search_stages.specs.declared.report.SearchEnding.TheVariants.{Solved, Spent, NoneBetter}
+use Rattle.search_stages.specs.declared.report.SearchReport.{SearchReport}
+use Rattle.search_stages.specs.declared.stages.Outcome.{Outcome}
 use Rattle.search_top.specs.Outside.{AreToldOutside}
-use Rattle.search_top.specs.Report.{IsBetterSum, IsFoundIn, IsBoundOf, EndsBy, IsSearchReport, most_visited}
+use Rattle.search_top.specs.Report.{IsBetterSum, IsFoundIn, IsBoundOf, EndsBy, IsSearchReport}
 use Rattle.search_top.specs.Staged.{IsOfStages}
-use Rattle.search_top.specs.Stages.{AreStages}
-use Rattle.search_top.specs.Turning.{told_sum, found_told, report_told}
-use Rattle.search_top.specs.declared.report.Found.{Found}
-use Rattle.search_top.specs.declared.report.SearchEnding.{SearchEnding}
-use Rattle.search_top.specs.declared.report.SearchEnding.TheVariants.{Solved, Spent, NoneBetter}
-use Rattle.search_top.specs.declared.report.SearchReport.{SearchReport}
-use Rattle.search_top.specs.declared.stages.Outcome.{Outcome}
-use Rattle.search_top.specs.declared.words.Asked.{Asked}
 use Rattle.search_top.proofs.OutsideLaws.{within_outside}
 use Rattle.search_top.proofs.TellLaws.{found-is, some-told, bound-told, within-told, ends-is, visited-told, effort-is}
 

@@ -12,15 +12,15 @@ use Rattle.problem_text.specs.declared.file.Goal.{Goal}
 use Rattle.problem_text.specs.declared.file.Goal.TheVariants.{Min, Max}
 use Rattle.minimised_problem.specs.Goal.{solved, IsAtMostWorse}
 use Rattle.bound_search.specs.Known.{IsBelow}
-use Rattle.search_top.specs.Outcomes.{IsOutcome, TellsOutcome}
-use Rattle.search_top.specs.Report.{IsBetterSum, IsFoundIn, IsBoundOf, HasSpent, EndsBy, most_visited}
-use Rattle.search_top.specs.Stages.{IsApart}
-use Rattle.search_top.specs.Turning.{told_sum, found_told, ending_told, report_told}
-use Rattle.search_top.specs.declared.report.Found.{Found}
-use Rattle.search_top.specs.declared.report.SearchReport.{SearchReport}
-use Rattle.search_top.specs.declared.stages.Outcome.{Outcome}
-use Rattle.search_top.specs.declared.words.Asked.{Asked}
-use Rattle.search_top.proofs.StageLaws.{has_ended, has_spent}
+use Rattle.search_stages.specs.Outcomes.{most_visited, IsOutcome, TellsOutcome}
+use Rattle.search_stages.specs.Stages.{IsApart}
+use Rattle.search_stages.specs.Turning.{told_sum, found_told, ending_told, report_told}
+use Rattle.search_stages.specs.declared.asked.Asked.{Asked}
+use Rattle.search_stages.specs.declared.report.Found.{Found}
+use Rattle.search_stages.specs.declared.report.SearchReport.{SearchReport}
+use Rattle.search_stages.specs.declared.stages.Outcome.{Outcome}
+use Rattle.search_stages.proofs.EndLaws.{has_ended, has_spent}
+use Rattle.search_top.specs.Report.{IsBetterSum, IsFoundIn, IsBoundOf, HasSpent, EndsBy}
 
 -- an assignment with its sum
 abbrev pub with_sum : Goal → ℕ → List ℕ → ℕ → Found

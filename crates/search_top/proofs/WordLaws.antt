@@ -10,8 +10,9 @@ use Rattle.program_frame.specs.declared.question.Question.{Question}
 use Rattle.program_frame.specs.declared.question.Question.TheVariants.{Text}
 use Rattle.program_frame.specs.Words.{unless_fault, settings_told}
 use Rattle.program_frame.proofs.RangeLaws.{IsBetween, AreWithin, shape, told-within, number-between, or-between}
-use Rattle.search_top.specs.declared.words.Asked.{Asked}
-use Rattle.search_top.specs.Words.{search_settings, asked_by, search_answer_to, error_limit, node_limit, fewest_cells, cell_limit, IsServed}
+use Rattle.search_stages.specs.Asked.{error_limit, node_limit, fewest_cells, cell_limit, IsServed}
+use Rattle.search_stages.specs.declared.asked.Asked.{Asked}
+use Rattle.search_top.specs.Words.{search_settings, asked_by, search_answer_to}
 
 served : (settings : List Setting) → AreWithin settings × (shape settings ≡ shape search_settings) → IsServed (asked_by settings)
 served settings told =

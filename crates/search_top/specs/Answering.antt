@@ -12,13 +12,13 @@ use Rattle.answer_io.specs.InputTold.{DeclaredInput}
 use Rattle.program_frame.specs.Program.{Program}
 use Rattle.program_frame.specs.declared.reply.Reply.{Reply}
 use Rattle.program_frame.specs.declared.reply.Reply.TheVariants.{Own, Refused}
+use Rattle.search_stages.specs.declared.asked.Asked.{Asked}
+use Rattle.search_stages.specs.declared.report.SearchEnding.{SearchEnding}
+use Rattle.search_stages.specs.declared.report.SearchEnding.TheVariants.{Solved, Spent, NoneBetter}
+use Rattle.search_stages.specs.declared.report.SearchReport.{SearchReport}
 use Rattle.search_top.specs.Report.{IsSearchReport}
 use Rattle.search_top.specs.Text.{search_text}
 use Rattle.search_top.specs.Words.{search_answer_to}
-use Rattle.search_top.specs.declared.report.SearchEnding.{SearchEnding}
-use Rattle.search_top.specs.declared.report.SearchEnding.TheVariants.{Solved, Spent, NoneBetter}
-use Rattle.search_top.specs.declared.report.SearchReport.{SearchReport}
-use Rattle.search_top.specs.declared.words.Asked.{Asked}
 
 -- the status of an ending; that of `none` has the code 10
 abbrev pub status_of_ending : SearchEnding → Status

@@ -2,8 +2,5 @@ pub mod Words
 pub mod Report
 pub mod Text
 pub mod Outside
-pub mod Stages
 pub mod Staged
-pub mod Outcomes
-pub mod Turning
 pub mod Answering

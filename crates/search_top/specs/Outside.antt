@@ -5,7 +5,7 @@ use Rattle.dcop_base.specs.Problem.{Dcop}
 use Rattle.dcop_base.specs.Table.{values_at}
 use Rattle.problem_order.specs.Order.{IsOrder}
 use Rattle.problem_order.specs.Reordered.{IsTableFor}
-use Rattle.search_top.specs.declared.report.Found.{Found}
+use Rattle.search_stages.specs.declared.report.Found.{Found}
 
 -- the same problem with its variables in this order: variable k of it is variable `order k` of the other
 pub record IsInOrder (p : Dcop) (order : List ℕ) (inside : Dcop) : Type 0 where

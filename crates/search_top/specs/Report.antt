@@ -1,16 +1,17 @@
 -- The report of a search, and what it promises.
-use Rattle.std.specs.Prelude.{◌≡◌, ℕ, ◌<◌, ◌≤◌, max, List, length, Option, Some, None, IfSome}
+use Rattle.std.specs.Prelude.{◌≡◌, ℕ, ◌<◌, ◌≤◌, List, length, Option, Some, None, IfSome}
 use Rattle.dcop_base.specs.Problem.{Dcop, IsAssignment, cost}
 use Rattle.dcop_optimum.specs.Goal.{top_of}
 use Rattle.problem_text.specs.declared.file.Goal.{Goal}
 use Rattle.problem_text.specs.declared.file.Goal.TheVariants.{Min, Max}
 use Rattle.minimised_problem.specs.Goal.{IsAtMostWorse}
+use Rattle.search_stages.specs.Outcomes.{most_visited}
+use Rattle.search_stages.specs.declared.asked.Asked.{Asked}
+use Rattle.search_stages.specs.declared.report.Found.{Found}
+use Rattle.search_stages.specs.declared.report.SearchEnding.{SearchEnding}
+use Rattle.search_stages.specs.declared.report.SearchEnding.TheVariants.{Solved, Spent, NoneBetter}
+use Rattle.search_stages.specs.declared.report.SearchReport.{SearchReport}
 use Rattle.search_top.specs.Staged.{IsOfStages}
-use Rattle.search_top.specs.declared.words.Asked.{Asked}
-use Rattle.search_top.specs.declared.report.Found.{Found}
-use Rattle.search_top.specs.declared.report.SearchEnding.{SearchEnding}
-use Rattle.search_top.specs.declared.report.SearchEnding.TheVariants.{Solved, Spent, NoneBetter}
-use Rattle.search_top.specs.declared.report.SearchReport.{SearchReport}
 
 -- a sum is better than another one: less, or for goal max greater
 abbrev pub IsBetterSum : Goal → ℕ → ℕ → Type 0
@@ -26,11 +27,6 @@ pub record IsFoundIn (goal : Goal) (p : Dcop) (better : Option ℕ) (found : Fou
 -- no assignment's sum is better than the bound, so the best sum is not better either
 abbrev pub IsBoundOf : Goal → Dcop → ℕ → Type 0
 IsBoundOf goal p bound = (values : List ℕ) → IsAssignment p values → IsAtMostWorse goal 0 bound (cost p values)
-
--- the most nodes that a search visits: the budget; if nothing is to be bettered, the number of variables if this is greater, for a first assignment
-abbrev pub most_visited : ℕ → ℕ → Option ℕ → ℕ
-most_visited budget count None = max budget count
-most_visited budget count (Some better) = budget
 
 -- a search that has ended with an assignment: its cost is at most the error worse than the bound
 pub record HasSolved (asked : Asked) (r : SearchReport) : Type 0 where

@@ -6,12 +6,12 @@ use Rattle.problem_text.specs.declared.file.Goal.{Goal}
 use Rattle.minimised_problem.specs.Goal.{solved}
 use Rattle.shared_costs.specs.Shared.{AreSharedCosts}
 use Rattle.shared_costs.specs.declared.shared.SharedCosts.{SharedCosts}
+use Rattle.search_stages.specs.Stages.{AreStages}
+use Rattle.search_stages.specs.Turning.{told_sum, found_told, ending_told}
+use Rattle.search_stages.specs.declared.asked.Asked.{Asked}
+use Rattle.search_stages.specs.declared.report.SearchReport.{SearchReport}
+use Rattle.search_stages.specs.declared.stages.Outcome.{Outcome}
 use Rattle.search_top.specs.Outside.{IsInOrder, AreToldOutside}
-use Rattle.search_top.specs.Stages.{AreStages}
-use Rattle.search_top.specs.Turning.{told_sum, found_told, ending_told}
-use Rattle.search_top.specs.declared.report.SearchReport.{SearchReport}
-use Rattle.search_top.specs.declared.stages.Outcome.{Outcome}
-use Rattle.search_top.specs.declared.words.Asked.{Asked}
 
 -- a report of stages: in an order of all variables, the problem solved was searched in `count` stages of the same shared costs, each with a greater limit than the one before it, from nothing visited; the report has all their nodes, their bound, what they found in the variables' own order, and how they ended
 pub record IsOfStages (goal : Goal) (p : Dcop) (asked : Asked) (r : SearchReport) : Type 0 where

@@ -8,10 +8,10 @@ use Rattle.problem_text.specs.declared.file.Goal.{Goal}
 use Rattle.problem_text.specs.declared.file.Goal.TheVariants.{Min, Max}
 use Rattle.certificate_text.specs.Named.{HasWord}
 use Rattle.certificate_text.specs.ReportText.{value_lines}
-use Rattle.search_top.specs.declared.report.Found.{Found}
-use Rattle.search_top.specs.declared.report.SearchEnding.{SearchEnding}
-use Rattle.search_top.specs.declared.report.SearchEnding.TheVariants.{Solved, Spent, NoneBetter}
-use Rattle.search_top.specs.declared.report.SearchReport.{SearchReport}
+use Rattle.search_stages.specs.declared.report.Found.{Found}
+use Rattle.search_stages.specs.declared.report.SearchEnding.{SearchEnding}
+use Rattle.search_stages.specs.declared.report.SearchEnding.TheVariants.{Solved, Spent, NoneBetter}
+use Rattle.search_stages.specs.declared.report.SearchReport.{SearchReport}
 
 -- the word of an ending
 abbrev pub ending_word : SearchEnding → List ℕ

@@ -1,29 +1,13 @@
 -- The words of `dcop_search`: what they ask for, or their first fault.
-use Rattle.std.specs.Prelude.{ℕ, ◌≤◌, List, [], ◌∷◌, Result, Ok, IfSome, unwrap_or}
-use Rattle.dcop_base.specs.Limits.{amount_limit}
+use Rattle.std.specs.Prelude.{List, [], ◌∷◌, Result, Ok, unwrap_or}
 use Rattle.solve_words.specs.declared.command.Format.TheVariants.{Dcop}
 use Rattle.solve_words.specs.declared.fault.WordFault.{WordFault}
 use Rattle.program_frame.specs.Settings.{number_setting, format_setting, number_given, format_given}
 use Rattle.program_frame.specs.declared.setting.OptionName.TheVariants.{Error, Budget, Cells, Better}
 use Rattle.program_frame.specs.declared.setting.Setting.{Setting}
 use Rattle.program_frame.specs.Words.{unless_fault, settings_told}
-use Rattle.search_top.specs.declared.words.Asked.{Asked}
-
--- the greatest error, and the greatest sum to be bettered; no sum is above it
-abbrev pub error_limit : ℕ
-error_limit = amount_limit
-
--- the greatest budget of nodes
-abbrev pub node_limit : ℕ
-node_limit = 1000000000000
-
--- the least value of `--cells`
-abbrev pub fewest_cells : ℕ
-fewest_cells = 1024
-
--- the greatest value of `--cells`, 2^28
-abbrev pub cell_limit : ℕ
-cell_limit = 268435456
+use Rattle.search_stages.specs.Asked.{error_limit, node_limit, fewest_cells, cell_limit}
+use Rattle.search_stages.specs.declared.asked.Asked.{Asked}
 
 -- the options of the program
 abbrev pub search_settings : List Setting
@@ -40,15 +24,6 @@ asked_by settings = record {
   better = number_given Better settings;
   format = unwrap_or (format_given settings) Dcop;
 }
-
--- what is asked for is within the options' ranges
-pub record IsServed (asked : Asked) : Type 0 where
-  pub error : asked.error ≤ error_limit
-  pub some : 1 ≤ asked.budget
-  pub few : asked.budget ≤ node_limit
-  pub cells : fewest_cells ≤ asked.cells
-  pub room : asked.cells ≤ cell_limit
-  pub better : IfSome asked.better (λ sum. sum ≤ error_limit)
 
 -- the answer to words
 abbrev pub search_answer_to : List (List ℕ) → Result Asked WordFault

@@ -1,23 +1,24 @@
 //! The reply to words and a source.
 
-ghost use Rattle.std.specs.Prelude.{◌≡◌, ◌+◌, map, IfOk, OnErr, string_bytes};
+ghost use Rattle.std.specs.Prelude.{◌≡◌, ◌≢◌, ◌+◌, map, IfOk, OnErr, string_bytes};
 ghost use Rattle.dcop_base.specs.Limits.{input_limit};
 ghost use Rattle.problem_text.specs.Steps.{declared_by};
 ghost use Rattle.answer_io.specs.Input.{Took, read_limit, source_state};
 ghost use Rattle.answer_io.specs.Inputs.{input_read};
 ghost use Rattle.program_frame.specs.Program.{IsReplied};
 ghost use Rattle.program_frame.specs.Replies.{IsShowable};
-ghost use Rattle.search_top.specs.Answering.{IsFileReply, IsTextReply, search_program};
-ghost use Rattle.search_top.specs.Words.{IsServed};
+ghost use Rattle.search_stages.specs.Asked.{IsServed};
+ghost use Rattle.search_top.specs.Answering.{IsFileReply, IsTextReply, search_program, status_of_ending};
 
 use crate::reporting::report_on;
-use crate::words::{Asked, read_search_words};
+use crate::words::read_search_words;
 use crate::writing::write_search;
 use answer_io::{InputFault, fault_answer, read_input, wcsp_answer};
 use dcop_base::NoMemory;
 use dcop_edge::Source;
 use problem_text::ProblemFile;
-use program_frame::{Question, Reply, question_of};
+use program_frame::{Question, Reply, Status, question_of};
+use search_stages::{Asked, SearchEnding};
 use std::alloc::Global;
 
 /// The reply to words and, if they are accepted, to all that is left in the source. The words are
@@ -65,6 +66,18 @@ fn file_reply(alloc: Global, asked: Asked, file: &ProblemFile) -> Result<Reply, 
     let report = report_on(alloc, file, asked)?;
     Ok(Reply::Own {
         text: write_search(alloc, &report, file)?,
-        status: report.ending.status(),
+        status: status_of(report.ending),
     })
+}
+
+/// The status of an ending; [`Status::No`] if no assignment is better.
+fn status_of(ending: SearchEnding) -> Status
+    ensures same { result ≡ status_of_ending ending }
+    ensures some { result ≢ Status.NoMemory }
+{
+    match ending {
+        SearchEnding::Solved => Status::Solved,
+        SearchEnding::Spent => Status::Spent,
+        SearchEnding::NoneBetter => Status::No,
+    }
 }

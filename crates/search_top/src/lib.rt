@@ -7,15 +7,11 @@
 #![tactic(auto)]
 
 mod answering;
-mod report;
 mod reporting;
-mod stages;
 mod top;
-mod turning;
 mod words;
 mod writing;
 
 pub use program_frame::Status;
-pub use report::{Found, SearchEnding, SearchReport};
+pub use search_stages::{Asked, Found, SearchEnding, SearchReport};
 pub use top::search;
-pub use words::Asked;

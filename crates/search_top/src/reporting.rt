@@ -4,17 +4,15 @@ ghost use Rattle.std.specs.Prelude.{◌≡◌, length, IfOk, IfSome};
 ghost use Rattle.dcop_base.specs.Whole.{IsProblem};
 ghost use Rattle.dcop_base.specs.Table.{values_at};
 ghost use Rattle.problem_order.specs.Order.{IsOrder};
+ghost use Rattle.search_stages.specs.Asked.{IsServed};
 ghost use Rattle.search_top.specs.Outside.{AreToldOutside};
 ghost use Rattle.search_top.specs.Report.{IsSearchReport};
 ghost use Rattle.search_top.specs.Text.{AreTold};
-ghost use Rattle.search_top.specs.Words.{IsServed};
 
-use crate::report::{Found, SearchReport};
-use crate::turning::search_report;
-use crate::words::Asked;
 use dcop_base::{NoMemory, Val, ValList, VarId, problem_is_whole};
 use problem_order::{reordered, reordered_files_cost_the_same, search_order};
 use problem_text::ProblemFile;
+use search_stages::{Asked, Found, SearchReport, search_report};
 use std::alloc::Global;
 
 /// The report of a search on a file. The variables are put into the order of the search, and what

@@ -5,23 +5,8 @@ ghost use Rattle.search_top.specs.Words.{asked_by, search_answer_to};
 
 use dcop_base::CAP;
 use program_frame::{OptionName, Setting, format_given, number_given, read_settings};
+use search_stages::Asked;
 use solve_words::{Format, WordFault};
-
-/// What the words ask for.
-#[derive(Clone, Copy, Debug, PartialEq, Eq)]
-pub struct Asked {
-    /// The most by which the sum of a solved answer may miss the best one, 0 to 2^62.
-    pub error: u64,
-    /// The number of nodes after which no value is visited once an assignment is known or if a sum
-    /// is to be bettered, 1 to 1,000,000,000,000.
-    pub budget: u64,
-    /// The most cells that all bounds together keep at a time, 1,024 to 268,435,456.
-    pub cells: u64,
-    /// The sum of the file that is to be bettered, 0 to 2^62; `None` if any assignment is sought.
-    pub better: Option<u64>,
-    /// The format of the problem.
-    pub format: Format,
-}
 
 /// What the words ask for, or their first fault. They are pairs of an option and its value.
 pub(crate) fn read_search_words(words: &[String]) -> Result<Asked, WordFault>

@@ -6,10 +6,10 @@ ghost use Rattle.std.specs.String.{string_bytes};
 ghost use Rattle.problem_text.specs.Canonical.{line};
 ghost use Rattle.search_top.specs.Text.{ending_word, head_lines, bound_lines, found_lines, search_text, AreTold};
 
-use crate::report::{Found, SearchEnding, SearchReport};
 use certificate_text::{write_number, write_values};
 use dcop_base::{Bytes, NoMemory};
 use problem_text::{Goal, ProblemFile, write_goal};
+use search_stages::{Found, SearchEnding, SearchReport};
 use std::alloc::Global;
 
 /// The text of the report of a search on a file, with the names of the file.
@@ -37,19 +37,6 @@ pub(crate) fn write_search(
     Ok(Bytes::from_vec(text.into_bytes()))
 }
 
-impl SearchEnding {
-    /// The word for the ending: `solved`, `spent` or `none`.
-    fn word(self) -> &'static str
-        ensures { result.now ≡ ending_word self }
-    {
-        match self {
-            SearchEnding::Solved => "solved",
-            SearchEnding::Spent => "spent",
-            SearchEnding::NoneBetter => "none",
-        }
-    }
-}
-
 fn write_head(text: &mut String, report: &SearchReport) -> Result<(), NoMemory>
     ensures { OnOk result (string_bytes text.new
         ≡ string_bytes text.old ++ flat_map line (head_lines report.now)) }
@@ -65,8 +52,19 @@ fn write_status(text: &mut String, ending: SearchEnding) -> Result<(), NoMemory>
     ensures { OnOk result (string_bytes text.new
         ≡ string_bytes text.old ++ line (codes "status" ∷ ending_word ending ∷ [])) }
 {
-    let status = ending.word();
+    let status = word_of(ending);
     Ok(write!(text, "status {status}\n")?)
+}
+
+/// The word for an ending: `solved`, `spent` or `none`.
+fn word_of(ending: SearchEnding) -> &'static str
+    ensures { result.now ≡ ending_word ending }
+{
+    match ending {
+        SearchEnding::Solved => "solved",
+        SearchEnding::Spent => "spent",
+        SearchEnding::NoneBetter => "none",
+    }
 }
 
 fn write_bounds(text: &mut String, report: &SearchReport) -> Result<(), NoMemory>

@@ -1,11 +1,7 @@
 //! The report of a search.
 
-ghost use Rattle.std.specs.Prelude.{◌≡◌, ◌≢◌};
-ghost use Rattle.search_top.specs.Answering.{status_of_ending};
-
 use dcop_base::ValList;
 use problem_text::Goal;
-use program_frame::Status;
 
 /// How a search ended.
 #[derive(Clone, Copy, Debug, PartialEq, Eq)]
@@ -16,20 +12,6 @@ pub enum SearchEnding {
     Spent,
     /// The search has ended, and no assignment is better than what was asked for.
     NoneBetter,
-}
-
-impl SearchEnding {
-    /// The status of the ending; [`Status::No`] if no assignment is better.
-    pub(crate) fn status(self) -> Status
-        ensures same { result ≡ status_of_ending self }
-        ensures some { result ≢ Status.NoMemory }
-    {
-        match self {
-            SearchEnding::Solved => Status::Solved,
-            SearchEnding::Spent => Status::Spent,
-            SearchEnding::NoneBetter => Status::No,
-        }
-    }
 }
 
 /// An assignment that was found.

@@ -4,11 +4,11 @@ ghost use Rattle.std.specs.Prelude.{◌≡◌, ℕ, ◌+◌, ◌≤◌, ◌⊎�
 ghost use Rattle.dcop_base.specs.Limits.{joined_limit};
 ghost use Rattle.shared_costs.specs.Shared.{AreSharedCosts};
 ghost use Rattle.bound_search.specs.Known.{IsKnown};
-ghost use Rattle.search_top.specs.Outcomes.{IsOutcome};
-ghost use Rattle.search_top.specs.Stages.{IsApart, IsNothingYet, IsStage};
-ghost use Rattle.search_top.specs.Words.{IsServed};
+ghost use Rattle.search_stages.specs.Asked.{IsServed};
+ghost use Rattle.search_stages.specs.Outcomes.{IsOutcome};
+ghost use Rattle.search_stages.specs.Stages.{IsApart, IsNothingYet, IsStage};
 
-use crate::words::Asked;
+use crate::asked::Asked;
 use bound_search::{Ended, Known, Limits, search};
 use bucket_bounds::{bounds_of, limit_within};
 use dcop_base::{NoMemory, Problem, Val, ValList, problem_is_whole};

@@ -10,8 +10,8 @@ use Rattle.bucket_bounds.specs.Parting.{IsPartedDuly}
 use Rattle.bucket_bounds.specs.declared.bucket.Bucket.{Bucket}
 use Rattle.bound_search.specs.Searched.{HasSearchEnded, IsBoundSearch}
 use Rattle.bound_search.specs.declared.searching.Ended.{Ended}
-use Rattle.search_top.specs.declared.stages.Outcome.{Outcome}
-use Rattle.search_top.specs.declared.words.Asked.{Asked}
+use Rattle.search_stages.specs.declared.asked.Asked.{Asked}
+use Rattle.search_stages.specs.declared.stages.Outcome.{Outcome}
 
 -- the best known cost is more than the error above the bound
 abbrev pub IsApart : ℕ → Option ℕ → ℕ → Type 0

@@ -1,8 +1,8 @@
 use Rattle.std.proofs.Common.{◌<◌, arith, inl, inr}
 use Rattle.std.proofs.lemmas.Bool.{not-true, not-false}
-use Rattle.search_top.proofs.StageLaws.{so_far_more, outcome_is, last_outcome}
-use Rattle.search_top.proofs.stages.outcome_of.Goals as goal
-use Rattle.search_top.proofs.stages.outcome_of.Goals.{then-not-outcome-via-then-not-outcome, then-not-outcome-via-else-not-outcome+then-outcome-asked}
+use Rattle.search_stages.proofs.StageLaws.{so_far_more, outcome_is, last_outcome}
+use Rattle.search_stages.proofs.stages.outcome_of.Goals as goal
+use Rattle.search_stages.proofs.stages.outcome_of.Goals.{then-not-outcome-via-then-not-outcome, then-not-outcome-via-else-not-outcome+then-outcome-asked}
 
 pub returns-then-not-outcome : goal.returns-then-not-outcome
 returns-then-not-outcome c =

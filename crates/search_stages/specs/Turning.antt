@@ -3,12 +3,12 @@ use Rattle.std.specs.Prelude.{ℕ, ◌-◌, Bool, Option, None, option_map, if�
 use Rattle.problem_text.specs.declared.file.Goal.{Goal}
 use Rattle.problem_text.specs.declared.file.Goal.TheVariants.{Min, Max}
 use Rattle.bound_search.specs.declared.known.Known.{Known}
-use Rattle.search_top.specs.declared.report.Found.{Found}
-use Rattle.search_top.specs.declared.report.SearchEnding.{SearchEnding}
-use Rattle.search_top.specs.declared.report.SearchEnding.TheVariants.{Solved, Spent, NoneBetter}
-use Rattle.search_top.specs.declared.report.SearchReport.{SearchReport}
-use Rattle.search_top.specs.declared.stages.Outcome.{Outcome}
-use Rattle.search_top.specs.declared.words.Asked.{Asked}
+use Rattle.search_stages.specs.declared.asked.Asked.{Asked}
+use Rattle.search_stages.specs.declared.report.Found.{Found}
+use Rattle.search_stages.specs.declared.report.SearchEnding.{SearchEnding}
+use Rattle.search_stages.specs.declared.report.SearchEnding.TheVariants.{Solved, Spent, NoneBetter}
+use Rattle.search_stages.specs.declared.report.SearchReport.{SearchReport}
+use Rattle.search_stages.specs.declared.stages.Outcome.{Outcome}
 
 -- a cost of the problem solved as a sum of the problem, and the other way round: for goal max the top sum less this, or 0 if this is greater
 abbrev pub told_sum : Goal → ℕ → ℕ → ℕ

@@ -12,17 +12,14 @@ use Rattle.bucket_bounds.specs.MiniBuckets.{AreMiniBuckets}
 use Rattle.bucket_bounds.specs.Parting.{IsPartedDuly}
 use Rattle.bucket_bounds.specs.declared.bucket.Bucket.{Bucket}
 use Rattle.bound_search.specs.Known.{IsKnown, IsNoWorse, IsBelow}
-use Rattle.bound_search.specs.Searched.{HasSearchEnded, IsSpent, EndsSo, IsBoundSearch, most_nodes}
+use Rattle.bound_search.specs.Searched.{HasSearchEnded, EndsSo, IsBoundSearch, most_nodes}
 use Rattle.bound_search.specs.declared.known.Known.{Known}
 use Rattle.bound_search.specs.declared.searching.Ended.{Ended}
-use Rattle.search_top.specs.Report.{most_visited}
-use Rattle.search_top.specs.Stages.{IsApart, IsNothingYet, IsStage}
-use Rattle.search_top.specs.Outcomes.{IsLowerBound, IsSoFar, IsOutcome}
-use Rattle.search_top.specs.declared.stages.Outcome.{Outcome}
-use Rattle.search_top.specs.declared.words.Asked.{Asked}
-
-not_both : (b : Bool) → b ≡ false → b ≡ true → ⊥
-not_both b none some = let both = sym none ∙ some in cc
+use Rattle.search_stages.specs.Outcomes.{most_visited, IsLowerBound, IsSoFar, IsOutcome}
+use Rattle.search_stages.specs.Stages.{IsApart, IsNothingYet, IsStage}
+use Rattle.search_stages.specs.declared.asked.Asked.{Asked}
+use Rattle.search_stages.specs.declared.stages.Outcome.{Outcome}
+use Rattle.search_stages.proofs.EndLaws.{not_both, has_ended, has_spent}
 
 some_not_none : (best : Option ℕ) (n : ℕ) → best ≡ Some n → best ≡ None → ⊥
 some_not_none best n some none = let both = sym some ∙ none in cc
@@ -69,20 +66,7 @@ ends_whole error budget whole known ended ends how = elim ends [
   ]
 ]
 
--- a search that has ended is not spent
-pub has_ended : (error budget : ℕ) (known : Known) (ended : Ended) → EndsSo error budget known ended → ended.spent ≡ false → HasSearchEnded error known ended.lower
-has_ended error budget known ended ends none = elim ends [
-  | inl done ↦ done.1
-  | inr spent ↦ absurd (not_both ended.spent none spent.0)
-]
-
-pub has_spent : (error budget : ℕ) (known : Known) (ended : Ended) → EndsSo error budget known ended → ended.spent ≡ true → IsSpent budget known
-has_spent error budget known ended ends spent = elim ends [
-  | inl done ↦ absurd (not_both ended.spent done.0 spent)
-  | inr reached ↦ reached.1
-]
-
--- so it has by a greater bound
+-- a search that has ended has so by a greater bound
 ended_above : (error : ℕ) (known : Known) (low lower : ℕ) → low ≤ lower → HasSearchEnded error known low → HasSearchEnded error known lower
 ended_above error known low lower above done = record {
   best = done.best;

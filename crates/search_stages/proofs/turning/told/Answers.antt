@@ -1,5 +1,5 @@
 use Rattle.std.proofs.Common.{refl}
-use Rattle.search_top.proofs.turning.told.Goals as goal
+use Rattle.search_stages.proofs.turning.told.Goals as goal
 
 pub returns : goal.returns
 returns c = record {

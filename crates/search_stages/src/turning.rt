@@ -3,13 +3,13 @@
 ghost use Rattle.std.specs.Prelude.{◌≡◌, IfOk, option_map};
 ghost use Rattle.dcop_optimum.specs.Goal.{top_of};
 ghost use Rattle.minimised_problem.specs.Goal.{solved};
-ghost use Rattle.search_top.specs.Outcomes.{IsOutcome, TellsOutcome};
-ghost use Rattle.search_top.specs.Turning.{told_sum, found_told, ending_told};
-ghost use Rattle.search_top.specs.Words.{IsServed};
+ghost use Rattle.search_stages.specs.Asked.{IsServed};
+ghost use Rattle.search_stages.specs.Outcomes.{IsOutcome, TellsOutcome};
+ghost use Rattle.search_stages.specs.Turning.{told_sum, found_told, ending_told};
 
+use crate::asked::Asked;
 use crate::report::{Found, SearchEnding, SearchReport};
 use crate::stages::{Outcome, outcome_of};
-use crate::words::Asked;
 use bound_search::Known;
 use dcop_base::{NoMemory, Problem};
 use dcop_optimum::top_sum;
@@ -22,7 +22,7 @@ use std::alloc::Global;
 /// # Errors
 ///
 /// [`NoMemory`] if it runs out of memory.
-pub(crate) fn search_report(
+pub fn search_report(
     alloc: Global,
     file: &ProblemFile,
     asked: Asked,

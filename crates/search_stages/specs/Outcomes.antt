@@ -1,5 +1,5 @@
 -- The outcome of a search by stages, on the problem that is solved.
-use Rattle.std.specs.Prelude.{◌≡◌, ℕ, ◌≤◌, max, true, false, List, length, option_map, Option, None}
+use Rattle.std.specs.Prelude.{◌≡◌, ℕ, ◌≤◌, max, true, false, List, length, option_map, Option, Some, None}
 use Rattle.dcop_base.specs.Problem.{Dcop, IsAssignment, cost}
 use Rattle.dcop_optimum.specs.Goal.{top_of}
 use Rattle.problem_text.specs.declared.file.Goal.{Goal}
@@ -8,12 +8,16 @@ use Rattle.shared_costs.specs.Shared.{AreSharedCosts}
 use Rattle.shared_costs.specs.declared.shared.SharedCosts.{SharedCosts}
 use Rattle.bound_search.specs.Known.{IsKnown, IsBelow}
 use Rattle.bound_search.specs.Searched.{EndsSo}
-use Rattle.search_top.specs.Report.{most_visited}
-use Rattle.search_top.specs.Stages.{IsApart, AreStages}
-use Rattle.search_top.specs.Turning.{told_sum, report_told}
-use Rattle.search_top.specs.declared.report.SearchReport.{SearchReport}
-use Rattle.search_top.specs.declared.stages.Outcome.{Outcome}
-use Rattle.search_top.specs.declared.words.Asked.{Asked}
+use Rattle.search_stages.specs.Stages.{IsApart, AreStages}
+use Rattle.search_stages.specs.Turning.{told_sum, report_told}
+use Rattle.search_stages.specs.declared.asked.Asked.{Asked}
+use Rattle.search_stages.specs.declared.report.SearchReport.{SearchReport}
+use Rattle.search_stages.specs.declared.stages.Outcome.{Outcome}
+
+-- the most nodes that a search visits: the budget; if nothing is to be bettered, the number of variables if this is greater, for a first assignment
+abbrev pub most_visited : ℕ → ℕ → Option ℕ → ℕ
+most_visited budget count None = max budget count
+most_visited budget count (Some better) = budget
 
 -- no assignment costs less
 abbrev pub IsLowerBound : Dcop → ℕ → Type 0

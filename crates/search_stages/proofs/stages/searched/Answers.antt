@@ -4,8 +4,8 @@ use Rattle.dcop_base.specs.Limits.{joined_limit}
 use Rattle.dcop_base.specs.Problem.{Dcop}
 use Rattle.bucket_bounds.specs.MiniBuckets.{AreMiniBuckets}
 use Rattle.bucket_bounds.specs.Parting.{IsPartedDuly}
-use Rattle.search_top.proofs.StageLaws.{stage_made}
-use Rattle.search_top.proofs.stages.searched.Goals as goal
+use Rattle.search_stages.proofs.StageLaws.{stage_made}
+use Rattle.search_stages.proofs.stages.searched.Goals as goal
 
 pub returns : goal.returns
 returns c =

@@ -1,0 +1,4 @@
+pub mod Asked
+pub mod Stages
+pub mod Outcomes
+pub mod Turning
