@@ -11,12 +11,12 @@ use crate::fault::ServeFault;
 use crate::give::give_all;
 use crate::listener::Listener;
 use dcop_edge::Gate;
-use reply_cache::{FreshMaker, LookShare, ReplyCache};
+use reply_cache::{FreshMaker, LookShare, ReplyCache, SharedCache};
 use solve_serve::{SessionEnd, serve_peers};
 use std::alloc::Global;
 use std::marker::{Brand, Send, Sync};
+use std::sync::Wait;
 use std::sync::ledger::{Blank, Ledger};
-use std::sync::{Mutex, Wait};
 use std::thread::Threads;
 
 /// What a server is asked for.
@@ -104,7 +104,7 @@ fn serve_with<
         misses: all_misses,
     };
     let cache = ReplyCache::<M, A, B>::new(alloc, plan.entries, looks, misses)?;
-    let cache = Mutex::new(cache);
+    let cache = SharedCache::new(cache);
     let mut ends = Vec::with_capacity(alloc, plan.clients as usize)?;
     let mut peers = accept_all(alloc, listener, plan.clients, &mut whole)?;
     serve_peers(rt, alloc, &mut peers, &cache, plan.workers, gate);

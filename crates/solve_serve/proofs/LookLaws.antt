@@ -71,6 +71,12 @@ module _ {S : Type 0} (does : S → Step → S → Type 0) where
     tally = record { looks = looks; misses = misses; calls = omega (arith, calls) };
   }
 
+  -- the same, where what was found is an option
+  pub looked_had : (key reply : List ℕ) (found : Option (List ℕ)) (a b : S) (t u : Tally) → found ≡ Some reply → does a (Looked key (is_some found)) b → u.looks ≡ t.looks + 1 → u.misses ≡ t.misses + missed (is_some found) → u.calls ≡ t.calls
+      → AreLooked (λ steps. Leads does steps a b) (key ∷ []) t u
+  looked_had key reply None a b t u had step looks misses calls = absurd (cc had)
+  looked_had key reply (Some kept) a b t u had step looks misses calls = looked_found key a b t u step looks misses calls
+
   -- a look that found nothing, and the reply was made
   pub looked_made : (key : List ℕ) (found : Bool) (a b c : S) (t u : Tally) → found ≡ false → does a (Looked key found) b → does b (Made key) c → u.looks ≡ t.looks + 1 → u.misses ≡ t.misses + missed found → u.calls ≡ t.calls + 1
       → AreLooked (λ steps. Leads does steps a c) (key ∷ []) t u

@@ -9,11 +9,11 @@ use crate::stop::Stop;
 use crate::write::write_all;
 use dcop_base::{Bytes, NoMemory};
 use dcop_edge::Sink;
-use reply_cache::{Key, LookShare, MAX_KEY, Maker, ReplyCache, SharedBytes};
+use reply_cache::{Key, LookShare, MAX_KEY, Maker, SharedBytes, SharedCache};
 use std::alloc::Global;
 use std::marker::Sync;
+use std::sync::Wait;
 use std::sync::ledger::Ledger;
-use std::sync::{Mutex, Wait};
 use std::thread::Threads;
 use wire_frames::frame;
 
@@ -22,7 +22,7 @@ pub(crate) fn answer<R: Threads + Wait + Sync, K: Sink, M: Maker, A: Ledger, B: 
     rt: &R,
     alloc: Global,
     sink: &mut K,
-    cache: &Mutex<ReplyCache<M, A, B>>,
+    cache: &SharedCache<M, A, B>,
     share: &mut LookShare<A, B>,
     maker: &mut M,
     request: Bytes,
@@ -47,7 +47,7 @@ pub(crate) fn answer<R: Threads + Wait + Sync, K: Sink, M: Maker, A: Ledger, B: 
 fn reply_to<R: Threads + Wait + Sync, M: Maker, A: Ledger, B: Ledger>(
     rt: &R,
     alloc: Global,
-    cache: &Mutex<ReplyCache<M, A, B>>,
+    cache: &SharedCache<M, A, B>,
     share: &mut LookShare<A, B>,
     maker: &mut M,
     key: Key,
@@ -62,7 +62,7 @@ fn reply_to<R: Threads + Wait + Sync, M: Maker, A: Ledger, B: Ledger>(
     ensures parts { (share.new.looks.parts ≡ share.old.looks.parts) × (share.new.misses.parts ≡ share.old.misses.parts) }
 {
     M::replies_are_short();
-    let found = cache.lock(rt).look(share, maker, &key)?;
+    let found = cache.look(rt, share, maker, &key)?;
     if let Some(reply) = found {
         return Ok(reply);
     }
@@ -77,7 +77,7 @@ fn reply_to<R: Threads + Wait + Sync, M: Maker, A: Ledger, B: Ledger>(
 /// Keeps a reply, which it shares; if memory runs out, it is not kept.
 fn keep<R: Wait, M: Maker, A: Ledger, B: Ledger>(
     rt: &R,
-    cache: &Mutex<ReplyCache<M, A, B>>,
+    cache: &SharedCache<M, A, B>,
     key: Key,
     reply: &SharedBytes,
 )
@@ -87,5 +87,5 @@ fn keep<R: Wait, M: Maker, A: Ledger, B: Ledger>(
     let Ok(reply) = reply.share() else {
         return;
     };
-    let _kept = cache.lock(rt).keep(key, reply);
+    let _kept = cache.keep(rt, key, reply);
 }

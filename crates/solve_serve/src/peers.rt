@@ -8,11 +8,11 @@ use crate::permit::Permits;
 use crate::session::serve_one;
 use crate::turns::each_in_order;
 use dcop_edge::{Gate, Sink, Source};
-use reply_cache::{LookShare, Maker, ReplyCache};
+use reply_cache::{LookShare, Maker, SharedCache};
 use std::alloc::Global;
 use std::marker::{Send, Sync};
+use std::sync::Wait;
 use std::sync::ledger::Ledger;
-use std::sync::{Mutex, Wait};
 use std::thread::Threads;
 
 /// The two ends of a session, what serves it, and how it ended.
@@ -52,7 +52,7 @@ pub fn serve_peers<
     rt: &R,
     alloc: Global,
     peers: &mut PeerList<S, K, M, A, B>,
-    cache: &Mutex<ReplyCache<M, A, B>>,
+    cache: &SharedCache<M, A, B>,
     workers: u32,
     gate: &G,
 )
@@ -77,7 +77,7 @@ fn serve_all<
     rt: &R,
     alloc: Global,
     peers: &mut [Peer<S, K, M, A, B>],
-    cache: &Mutex<ReplyCache<M, A, B>>,
+    cache: &SharedCache<M, A, B>,
     workers: u32,
     gate: &G,
 )
@@ -112,7 +112,7 @@ fn serve_peer<
     alloc: Global,
     session: u32,
     peer: &mut Peer<S, K, M, A, B>,
-    cache: &Mutex<ReplyCache<M, A, B>>,
+    cache: &SharedCache<M, A, B>,
     gate: &G,
 )
     requires { IsFresh M.calls peer.old }

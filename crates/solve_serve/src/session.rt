@@ -14,11 +14,11 @@ use crate::request::next_request;
 use crate::stop::Stop;
 use dcop_base::VarId;
 use dcop_edge::{Gate, Sink, Source};
-use reply_cache::{LookShare, Maker, ReplyCache};
+use reply_cache::{LookShare, Maker, SharedCache};
 use std::alloc::Global;
 use std::marker::Sync;
+use std::sync::Wait;
 use std::sync::ledger::Ledger;
-use std::sync::{Mutex, Wait};
 use std::thread::Threads;
 use wire_frames::FrameReader;
 
@@ -44,7 +44,7 @@ pub fn serve_one<
     session: u32,
     source: &mut S,
     sink: &mut K,
-    cache: &Mutex<ReplyCache<M, A, B>>,
+    cache: &SharedCache<M, A, B>,
     share: &mut LookShare<A, B>,
     maker: &mut M,
     gate: &G,
@@ -88,7 +88,7 @@ fn turn<R: Threads + Wait + Sync, S: Source, K: Sink, M: Maker, A: Ledger, B: Le
     alloc: Global,
     source: &mut S,
     sink: &mut K,
-    cache: &Mutex<ReplyCache<M, A, B>>,
+    cache: &SharedCache<M, A, B>,
     share: &mut LookShare<A, B>,
     maker: &mut M,
     reader: &mut FrameReader,

@@ -4,12 +4,12 @@ ghost use Rattle.std.specs.Prelude.{◌≡◌};
 
 use crate::pair::replies_in;
 use dcop_edge::{MemorySink, MemorySource, OpenGate};
-use reply_cache::{FreshMaker, LookShare, ReplyCache};
+use reply_cache::{FreshMaker, LookShare, ReplyCache, SharedCache};
 use serve_replies::SolveMaker;
 use solve_serve::{SessionEnd, serve_one};
 use std::marker::Brand;
+use std::sync::Wait;
 use std::sync::ledger::{Blank, Ledger};
-use std::sync::{Mutex, Wait};
 use std::thread::Threads;
 
 /// The outcome of a session.
@@ -54,7 +54,7 @@ fn session_with<R: Threads + Wait + AllocGlobal + Sync, A: Ledger, B: Ledger>(
         misses: all_misses,
     };
     let cache = ReplyCache::<SolveMaker, A, B>::new(alloc, 4, looks, misses).ok()?;
-    let cache = Mutex::new(cache);
+    let cache = SharedCache::new(cache);
     let mut source = MemorySource::new(Vec::from_slice(alloc, bytes).ok()?, Vec::new(alloc));
     let mut sink = MemorySink::new(alloc, Vec::new(alloc));
     let mut maker = SolveMaker::fresh();
