@@ -1,7 +1,6 @@
 //! Why a cut is refused.
 
 use dcop_base::NoMemory;
-use std::alloc::AllocError;
 
 /// Why [`run_cut`](crate::run_cut) gives no answer.
 #[derive(Clone, Copy, Debug, PartialEq, Eq)]
@@ -24,17 +23,6 @@ impl From<NoMemory> for CutFault {
     ghost from_gives = { λ _ e. e ≡ no_memory };
 
     fn from(_refused: NoMemory) -> Self {
-        CutFault::NoMemory
-    }
-}
-
-impl From<AllocError> for CutFault {
-    ghost use Rattle.std.specs.Prelude.{◌≡◌};
-    ghost use Rattle.cut_dpop.specs.declared.fault.CutFault.TheVariants.{NoMemory as no_memory};
-
-    ghost from_gives = { λ _ e. e ≡ no_memory };
-
-    fn from(_refused: AllocError) -> Self {
         CutFault::NoMemory
     }
 }

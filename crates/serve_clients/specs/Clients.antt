@@ -1,25 +1,8 @@
 -- Peers that are accepted and given back.
-use Rattle.std.specs.Prelude.{◌≡◌, ℕ, ◌≤◌, Option, Some, None, Result, Ok, Err}
-use Rattle.dcop_edge.specs.Faults.{Rose}
+use Rattle.std.specs.Prelude.{◌≡◌, ℕ, Option, Some, None}
 use Rattle.solve_serve.specs.declared.peers.Peer.{Peer}
 use Rattle.solve_serve.specs.declared.end.SessionEnd.{SessionEnd}
 use Rattle.solve_serve.specs.declared.end.SessionEnd.TheVariants.{Memory}
-use Rattle.serve_clients.specs.declared.listen_fault.ListenFault.{ListenFault}
-use Rattle.serve_clients.specs.declared.listen_fault.ListenFault.TheVariants as listens
-use Rattle.serve_clients.specs.declared.fault.ServeFault.{ServeFault}
-use Rattle.serve_clients.specs.declared.fault.ServeFault.TheVariants as faults
-
--- serving clients fails by the listener only if the listener's count of faults rose; otherwise that
--- count is unchanged
-abbrev pub HasServeCause : {T : Type 0} → ℕ → ℕ → Result T ServeFault → Type 0
-HasServeCause old new (Ok value) = new ≡ old
-HasServeCause old new (Err faults.Link) = (old ≤ new) × Rose old new
-HasServeCause old new (Err faults.NoMemory) = new ≡ old
-
--- why clients are not served if a listener gave no connection for this reason
-abbrev pub serve_fault : ListenFault → ServeFault
-serve_fault listens.Failed = faults.Link
-serve_fault listens.NoMemory = faults.NoMemory
 
 -- the end that is given; Memory 0 if none is
 abbrev pub end_in : Option SessionEnd → SessionEnd

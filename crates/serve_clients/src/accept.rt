@@ -3,9 +3,8 @@
 ghost use Rattle.std.specs.Prelude.{◌≡◌, ◌≤◌, ◌<◌, ◌+◌, All, map, length, IfOk, OnOk, OnErr};
 ghost use Rattle.serve_clients.specs.Listener.{HasListenCause, first_of};
 ghost use Rattle.serve_clients.specs.Sessions.{all_before, AreReturned};
-ghost use Rattle.serve_clients.specs.Clients.{HasServeCause, connection, IsNew};
+ghost use Rattle.serve_clients.specs.Clients.{connection, IsNew};
 
-use crate::fault::ServeFault;
 use crate::give::return_all;
 use crate::listen_fault::ListenFault;
 use crate::listener::Listener;
@@ -21,10 +20,10 @@ pub(crate) fn accept_all<L: Listener, M: FreshMaker, A: Ledger, B: Ledger>(
     listener: &mut L,
     clients: u32,
     whole: &mut LookShare<A, B>,
-) -> Result<PeerList<L::S, L::K, M, A, B>, ServeFault>
+) -> Result<PeerList<L::S, L::K, M, A, B>, ListenFault>
     requires looks { (whole.old.looks.parts ≡ clients) × (whole.old.looks.amount ≡ 0) }
     requires misses { (whole.old.misses.parts ≡ clients) × (whole.old.misses.amount ≡ 0) }
-    ensures cause { HasServeCause (L.faults listener.old) (L.faults listener.new) result }
+    ensures cause { HasListenCause (L.faults listener.old) (L.faults listener.new) result }
     ensures count { IfOk result (λ peers. length peers.items ≡ clients) }
     ensures new { IfOk result (λ peers. All (λ p. IsNew M.calls p) peers.items) }
     ensures waiting { IfOk result (λ peers. L.waiting listener.old ≡ all_before (map (λ p. connection p) peers.items) (L.waiting listener.new)) }
@@ -41,7 +40,7 @@ pub(crate) fn accept_all<L: Listener, M: FreshMaker, A: Ledger, B: Ledger>(
             Ok(peer) => peers.push_reserved(peer),
             Err(fault) => {
                 return_all(listener, peers);
-                return Err(ServeFault::from(fault));
+                return Err(fault);
             }
         }
     }

@@ -3,12 +3,12 @@
 ghost use Rattle.std.specs.Prelude.{◌≡◌, ◌≤◌, ◌<◌, IfOk, OnErr};
 ghost use Rattle.reply_cache.specs.Limits.{entry_limit};
 ghost use Rattle.solve_serve.specs.Peers.{peer_limit, server_limit};
+ghost use Rattle.serve_clients.specs.Listener.{HasListenCause};
 ghost use Rattle.serve_clients.specs.Sessions.{HaveServed, AreReturned};
-ghost use Rattle.serve_clients.specs.Clients.{HasServeCause};
 
 use crate::accept::accept_all;
-use crate::fault::ServeFault;
 use crate::give::give_all;
+use crate::listen_fault::ListenFault;
 use crate::listener::Listener;
 use dcop_edge::Gate;
 use reply_cache::{FreshMaker, LookShare, ReplyCache, SharedCache};
@@ -45,22 +45,22 @@ pub struct Outcome {
 ///
 /// # Errors
 ///
-/// [`ServeFault::Link`] if the listener failed in this call, and [`ServeFault::NoMemory`] if memory
-/// runs out. In both cases no session was begun, and each connection that was accepted was given
-/// back.
+/// [`ListenFault::Failed`] if the listener failed in this call, and [`ListenFault::NoMemory`] if
+/// memory runs out. In both cases no session was begun, and each connection that was accepted was
+/// given back.
 pub fn serve_clients<R: Threads + Wait + Sync, L: Listener, M: FreshMaker, G: Gate>(
     rt: &R,
     alloc: Global,
     listener: &mut L,
     plan: Plan,
     gate: &G,
-) -> Result<Outcome, ServeFault>
+) -> Result<Outcome, ListenFault>
     requires clients { (0 < plan.clients) × (plan.clients ≤ peer_limit) }
     requires entries { (0 < plan.entries) × (plan.entries ≤ entry_limit) }
     requires workers { (0 < plan.workers) × (plan.workers ≤ server_limit) }
     ensures served { IfOk result (λ o. HaveServed L.S.left L.S.faults L.K.held L.K.faults M.is_reply plan.clients o.ends.items o.looks
         (L.waiting listener.old) (L.waiting listener.new) (L.closed listener.old) (L.closed listener.new)) }
-    ensures cause { HasServeCause (L.faults listener.old) (L.faults listener.new) result }
+    ensures cause { HasListenCause (L.faults listener.old) (L.faults listener.new) result }
     ensures returned { OnErr result (AreReturned (L.waiting listener.old) (L.waiting listener.new) (L.closed listener.old) (L.closed listener.new)) }
     ensures none_lent { L.lent listener.new ≡ L.lent listener.old }
 {
@@ -85,7 +85,7 @@ fn serve_with<
     misses: Blank,
     plan: Plan,
     gate: &G,
-) -> Result<Outcome, ServeFault>
+) -> Result<Outcome, ListenFault>
     requires looks { (looks.name ≡ A.name) × (looks.parts ≡ A.parts) × (looks.parts ≡ plan.clients) }
     requires misses { (misses.name ≡ B.name) × (misses.parts ≡ B.parts) × (misses.parts ≡ plan.clients) }
     requires clients { (0 < plan.clients) × (plan.clients ≤ peer_limit) }
@@ -93,7 +93,7 @@ fn serve_with<
     requires workers { (0 < plan.workers) × (plan.workers ≤ server_limit) }
     ensures served { IfOk result (λ o. HaveServed L.S.left L.S.faults L.K.held L.K.faults M.is_reply plan.clients o.ends.items o.looks
         (L.waiting listener.old) (L.waiting listener.new) (L.closed listener.old) (L.closed listener.new)) }
-    ensures cause { HasServeCause (L.faults listener.old) (L.faults listener.new) result }
+    ensures cause { HasListenCause (L.faults listener.old) (L.faults listener.new) result }
     ensures returned { OnErr result (AreReturned (L.waiting listener.old) (L.waiting listener.new) (L.closed listener.old) (L.closed listener.new)) }
     ensures none_lent { L.lent listener.new ≡ L.lent listener.old }
 {

@@ -15,7 +15,6 @@
 
 mod accept;
 mod clients;
-mod fault;
 mod give;
 mod listen_fault;
 mod listener;
@@ -23,7 +22,6 @@ mod memory_listener;
 mod standard_listener;
 
 pub use clients::{Outcome, Plan, serve_clients};
-pub use fault::ServeFault;
 pub use listen_fault::ListenFault;
 pub use listener::Listener;
 pub use memory_listener::MemoryListener;

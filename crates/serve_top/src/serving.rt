@@ -13,7 +13,7 @@ use crate::words::{ServeWords, read_words};
 use dcop_base::NoMemory;
 use dcop_edge::{Gate, Sink};
 use reply_cache::FreshMaker;
-use serve_clients::{Listener, Plan, ServeFault, serve_clients};
+use serve_clients::{ListenFault, Listener, Plan, serve_clients};
 use solve_serve::write_all;
 use std::alloc::Global;
 use std::marker::Sync;
@@ -136,8 +136,8 @@ fn served<R: Threads + Wait + Sync, L: Listener, M: FreshMaker, G: Gate>(
             ends: outcome.ends,
             looks: outcome.looks,
         }),
-        Err(ServeFault::Link) => Ok(ServeAnswer::Link),
-        Err(ServeFault::NoMemory) => Err(NoMemory),
+        Err(ListenFault::Failed) => Ok(ServeAnswer::Link),
+        Err(ListenFault::NoMemory) => Err(NoMemory),
     }
 }
 

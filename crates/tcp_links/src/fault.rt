@@ -7,7 +7,6 @@ use dcop_base::{NoMemory, VarId};
 use link_records::LinkDifference;
 use node_exchange::PassFault;
 use protocol_steps::Envelope;
-use std::alloc::{AllocError, AllocFailed};
 
 /// What was sent and what was received, when they differ.
 #[derive(Drop)]
@@ -80,26 +79,6 @@ impl From<NoMemory> for NodeFault {
     ghost from_gives = { λ _ e. e ≡ no_memory };
 
     fn from(_refused: NoMemory) -> Self {
-        NodeFault::NoMemory
-    }
-}
-
-impl From<AllocError> for NodeFault {
-    ghost use Rattle.tcp_links.specs.declared.fault.NodeFault.TheVariants.{NoMemory as no_memory};
-
-    ghost from_gives = { λ _ e. e ≡ no_memory };
-
-    fn from(_refused: AllocError) -> Self {
-        NodeFault::NoMemory
-    }
-}
-
-impl<T: Drop> From<AllocFailed<T>> for NodeFault {
-    ghost use Rattle.tcp_links.specs.declared.fault.NodeFault.TheVariants.{NoMemory as no_memory};
-
-    ghost from_gives = { λ _ e. e ≡ no_memory };
-
-    fn from(_refused: AllocFailed<T>) -> Self {
         NodeFault::NoMemory
     }
 }
