@@ -29,7 +29,7 @@ fn post_one(
     ensures calm { KeepCalm arrivals.old seats.old arrivals.new seats.new }
 {
     let Parcel { to, message } = parcel;
-    arrivals.tell(to.0 as usize);
+    arrivals.rouse(to.0 as usize);
     seats[to.0 as usize].add(from, Letter { from, message })
 }
 

@@ -184,15 +184,6 @@ impl CoreState {
         self.seats.len()
     }
 
-    /// The first agent that is not below `from` and was sent something since
-    /// [`CoreState::list_takes`] last looked at it. It is a hint: no clause says that no such agent
-    /// is left out.
-    pub fn next_called(&self, from: usize) -> Option<usize>
-        ensures { IfSome result (λ me. (from ≤ me) × (me < length self.now.seats)) }
-    {
-        self.arrivals.next(from, self.seats.len())
-    }
-
     /// The first agent that is not below `from` and may take something. Each agent that is passed
     /// over takes nothing.
     pub fn next_busy(&self, from: usize) -> Option<usize>
@@ -222,7 +213,6 @@ impl CoreState {
             takes.new.items ≡ seat_takes (slice_index_or self.old.seats me d)) }
     {
         let agent = me.0 as usize;
-        self.arrivals.forget(agent);
         if self.arrivals.is_calm(agent) {
             takes.clear();
             return Ok(());

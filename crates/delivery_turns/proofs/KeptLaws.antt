@@ -59,10 +59,6 @@ still_noted more left s t a b n es mid is core k fits =
     let old = n.6 in
     (n.0, mid, n.2, n.3 ++ es, core, subst (λ (m : Network). MayBeNotes n.0 n.2 (n.3 ++ es) m b) is (k.1 n.2 n.3 n.5), omega (arith, size, old, fits))
 
--- fewer further events
-pub less_noted : (more left : ℕ) (s : CoreView) (a : Option NotesView) → left ≤ more → IsSomeNoted more s a → IsSomeNoted left s a
-less_noted more left s a le n = (n.0, n.1, n.2, n.3, n.4, n.5, let old = n.6 in omega (arith, old, le))
-
 -- the event of a turn
 module _ (k : ℕ) (s t : CoreView) (ts : List Take) (takes : TakesTurn k s t ts) where
   abbrev e : Event

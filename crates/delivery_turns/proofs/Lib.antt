@@ -6,3 +6,4 @@ mod RoundLaws
 mod KeptLaws
 mod SprintLaws
 mod PlayedOutLaws
+mod OneWayLaws

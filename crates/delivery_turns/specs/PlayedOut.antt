@@ -11,7 +11,7 @@ use Rattle.delivery_turns.specs.Turns.{AreEventfulRounds}
 use Rattle.delivery_turns.specs.declared.sprint.PlayedOut.{PlayedOut}
 
 -- rounds of agents with these start views are at most `budget`; each began while some agent had not
--- ended, and has an event
+-- ended, has an event, and has the events of up to 32 turns of all agents
 pub record AreDueRounds (budget : ℕ) (made : List View) (rounds : List (List Event)) : Type 0 where
   pub busy : AreEventfulRounds (start_state made) rounds
   pub few : length rounds ≤ budget
@@ -29,3 +29,10 @@ pub record HavePlayedOut (budget : ℕ) (made : List View) (certified : Bool) (p
   pub due : AreDueRounds budget made run.rounds
   pub asked : is_some played.log ≡ certified
   pub kept : IfSome played.log (IsLogOfRun made (flat_map (λ es. es) run.rounds) run.end)
+
+-- two runs of agents with the same start views under the same budget have the same rounds and the
+-- same outcome, each with a log or without one
+abbrev pub RunsGoOneWay : Type 0
+RunsGoOneWay =
+    (budget : ℕ) (made : List View) (some other : Bool) (a b : PlayedOut) → (x : HavePlayedOut budget made some a) → (y : HavePlayedOut budget made other b)
+    → (x.run.rounds ≡ y.run.rounds) × (a.outcome ≡ b.outcome)

@@ -1,5 +1,5 @@
 -- Rounds of many turns over the agents of a core state.
-use Rattle.std.specs.Prelude.{◌≡◌, ℕ, ◌+◌, ◌*◌, ◌≤◌, Bool, ◌==◌, List, length, min, Option}
+use Rattle.std.specs.Prelude.{◌≡◌, ℕ, ◌+◌, ◌*◌, ◌-◌, ◌≤◌, Bool, ◌==◌, List, ◌++◌, length, Option}
 use Rattle.std.specs.List.{flat_map}
 use Rattle.dcop_base.specs.Limits.{variable_limit, amount_limit}
 use Rattle.dcop_base.specs.Problem.{Dcop}
@@ -8,12 +8,12 @@ use Rattle.protocol_steps.specs.declared.event.Take.{Take}
 use Rattle.protocol_steps.specs.declared.run_end.RunEnd.{RunEnd}
 use Rattle.protocol_steps.specs.View.{View}
 use Rattle.protocol_steps.specs.Network.{Network}
-use Rattle.protocol_steps.specs.Effect.{pending, deliveries}
+use Rattle.protocol_steps.specs.Effect.{deliveries}
 use Rattle.protocol_steps.specs.Run.{journal}
 use Rattle.protocol_steps.specs.RunEnds.{IsRunEnd}
-use Rattle.protocol_steps.specs.Rounds.{most_events, link_share, taken_in, AreRounds}
+use Rattle.protocol_steps.specs.Rounds.{most_events, link_share, AreRounds}
 use Rattle.delivery_core.specs.State.{CoreView}
-use Rattle.delivery_turns.specs.Turns.{event_with, turn, round, AreEventfulRounds}
+use Rattle.delivery_turns.specs.Turns.{event_with, turn, round, sprint, AreEventfulRounds}
 use Rattle.delivery_turns.specs.CoreTurns.{LeadsCore}
 use Rattle.delivery_core.specs.Shown.{IsCore}
 use Rattle.log_replay.specs.Notes.{NotesView, MayBeNotes, KeepNotes}
@@ -55,34 +55,15 @@ abbrev pub TakesAll : CoreView → Option NotesView → CoreView → Option Note
 TakesAll old notes new noted still =
     (p : Dcop) (net : Network) → IsCore p net old → (mid : Network) × LeadsCore p net (round net) mid new × (still ≡ none_of (round net)) × KeepNotes p net (round net) notes noted
 
--- turns of agents below agent `from`, each at most once, lead from a network to a core state
-pub record Turning (p : Dcop) (net : Network) (from : ℕ) (s : CoreView) : Type 0 where
-  pub es : List Event
-  pub mid : Network
-  pub leads : LeadsCore p net es mid s
-  pub few : (i : ℕ) → length (journal i es) ≤ 1
-  pub none : (i : ℕ) → from ≤ i → length (journal i es) ≡ 0
-  pub counted : deliveries mid ≤ deliveries net + from * agent_share
-
--- turns of agents, each at most once, lead from one core state to another, and their events are
--- noted; `still` says whether they have no event
-abbrev pub TakesTurns : CoreView → Option NotesView → CoreView → Option NotesView → Bool → Type 0
-TakesTurns old notes new noted still =
-    (p : Dcop) (net : Network) → IsCore p net old
-    → (es : List Event) × (mid : Network) × LeadsCore p net es mid new × (still ≡ none_of es) × ((i : ℕ) → length (journal i es) ≤ 1) × (deliveries mid ≤ deliveries net + turn_share)
-    × KeepNotes p net es notes noted
-
--- turns lead from a network to this core state, at most k of each agent; they took from each link
--- all that was pending at first, or at least 64 messages if that was more; if they have no event, a
--- turn of all agents has none either
+-- the first k turns of a round lead from a network to this core state; the round has their events,
+-- followed by those of the turns that are left
 pub record Sprinting (p : Dcop) (net : Network) (k : ℕ) (s : CoreView) : Type 0 where
   pub events : List Event
   pub mid : Network
   pub leads : LeadsCore p net events mid s
   pub few : (i : ℕ) → length (journal i events) ≤ k
-  pub served : (i j : ℕ) → min link_share (length (pending net i j)) ≤ taken_in i j events
   pub counted : deliveries mid ≤ deliveries net + k * turn_share
-  pub still : length events ≡ 0 → length (round net) ≡ 0
+  pub left : sprint net most_events ≡ events ++ sprint mid (most_events - k)
 
 -- a round of at most 32 turns leads from one core state to another, and its events are noted;
 -- `still` says whether it has no event

@@ -1,11 +1,12 @@
 -- Playing in rounds: which events a round has, and when playing stops.
-use Rattle.std.specs.Prelude.{◌≡◌, ◌≢◌, ℕ, Bool, true, false, ◌||◌, List, [], ◌∷◌, ◌++◌, length, ◌==◌, nat_le, if◌then◌else◌, Some}
+use Rattle.std.specs.Prelude.{◌≡◌, ◌≢◌, ℕ, zero, suc, Bool, true, false, ◌||◌, List, [], ◌∷◌, ◌++◌, length, ◌==◌, nat_le, if◌then◌else◌, Some}
 use Rattle.std.specs.List.{flat_map, fold, range_with_len}
 use Rattle.protocol_steps.specs.declared.event.Take.{Take}
 use Rattle.protocol_steps.specs.declared.event.Event.{Event}
 use Rattle.protocol_steps.specs.Network.{Network}
 use Rattle.protocol_steps.specs.Effect.{effect, pending, has_ended, deliveries}
 use Rattle.protocol_steps.specs.Run.{run}
+use Rattle.protocol_steps.specs.Rounds.{most_events}
 use Rattle.letter_queues.specs.Takes.{take_some}
 use Rattle.delivery_core.specs.State.{CoreView}
 use Rattle.delivery_core.specs.NetworkState.{IsStateOf}
@@ -40,10 +41,16 @@ round net = turns net (range_with_len 0 (length net.views))
 abbrev pub stops : ℕ → Network → Bool
 stops budget net = has_ended net || nat_le budget (deliveries net) || (length (round net) == 0)
 
--- each of these rounds began while some agent had not ended, and has an event
+-- the events of up to k turns of all agents; the first turn that has no event is the last one
+abbrev pub sprint : Network → ℕ → List Event
+sprint net zero = []
+sprint net (suc k) = if length (round net) == 0 then [] else round net ++ sprint (after net (round net)) k
+
+-- each of these rounds began while some agent had not ended, has an event, and has the events of up
+-- to 32 turns of all agents
 abbrev pub AreEventfulRounds : Network → List (List Event) → Type 0
 AreEventfulRounds net [] = Unit {0}
-AreEventfulRounds net (es ∷ rounds) = (has_ended net ≡ false) × (es ≢ []) × AreEventfulRounds (after net es) rounds
+AreEventfulRounds net (es ∷ rounds) = (has_ended net ≡ false) × (es ≢ []) × (es ≡ sprint net most_events) × AreEventfulRounds (after net es) rounds
 
 -- these are the events of rounds, round by round, that lead from one network to another; playing
 -- does not stop before any of them, and stops at the end

@@ -10,5 +10,5 @@
 mod sprint;
 mod turn;
 
-pub use sprint::{PlayedOut, play_out, play_out_logged, turns_agree};
+pub use sprint::{PlayedOut, play_out, play_out_logged, runs_go_one_way, turns_agree};
 pub use turn::{Played, play};

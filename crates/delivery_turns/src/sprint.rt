@@ -5,8 +5,8 @@ ghost use Rattle.dcop_base.specs.Limits.{variable_limit, budget_limit};
 ghost use Rattle.protocol_steps.specs.Outcomes.{HaveRun};
 ghost use Rattle.protocol_steps.specs.Rounds.{most_events};
 ghost use Rattle.delivery_core.specs.Agents.{IsStartFor, agents_of};
-ghost use Rattle.delivery_turns.specs.Sprints.{turn_share, round_room, run_room, IsSomeNoted, NotesTurn, TakesAll, TakesTurns, PlaysSprint, PlaysSprints};
-ghost use Rattle.delivery_turns.specs.PlayedOut.{HaveDulyRun, HavePlayedOut};
+ghost use Rattle.delivery_turns.specs.Sprints.{turn_share, round_room, run_room, IsSomeNoted, NotesTurn, TakesAll, PlaysSprint, PlaysSprints};
+ghost use Rattle.delivery_turns.specs.PlayedOut.{HaveDulyRun, HavePlayedOut, RunsGoOneWay};
 
 use crate::turn::{is_over, take_turn};
 use dcop_base::{NoMemory, Problem, VarId, problem_is_whole};
@@ -24,6 +24,12 @@ const MOST_TURNS: usize = 32;
 /// definitions.
 pub fn turns_agree()
     ensures { MOST_TURNS ≡ most_events }
+{}
+
+/// Runs of agents go one way: with a log and without one they have the same rounds and the same
+/// outcome.
+pub fn runs_go_one_way()
+    ensures { RunsGoOneWay }
 {}
 
 /// What agents that were played out have come to.
@@ -80,32 +86,8 @@ fn play_all<G: Gate>(
     Ok(still)
 }
 
-/// Plays a turn of the agents that were sent something since they were last looked at, in ascending
-/// order. It includes an agent to which an agent before it in this turn sends something. Returns
-/// whether the turn took nothing.
-fn play_turn<G: Gate>(
-    alloc: Global,
-    gate: &G,
-    state: &mut CoreState,
-    notes: &mut Option<Notes>,
-    takes: &mut Vec<Take>,
-) -> Result<bool, NoMemory>
-    requires core { IsSomeNoted (turn_share + 1) state.old notes.old }
-    requires few { length state.old.seats ≤ variable_limit }
-    ensures { IfOk result (TakesTurns state.old notes.old state.new notes.new) }
-{
-    let mut still = true;
-    let mut from = 0;
-    while let Some(me) = state.next_called(from) {
-        take_noted(alloc, gate, state, notes, me, takes)?;
-        still &= takes.is_empty();
-        from = me + 1;
-    }
-    Ok(still)
-}
-
-/// Plays a round: a turn of all agents, and then turns of those that were sent something, until a
-/// turn takes nothing, at most 32 turns in all. Returns whether no turn took anything.
+/// Plays a round: turns of all agents, until a turn takes nothing, at most 32 turns. Returns whether
+/// no turn took anything.
 fn play_sprint<G: Gate>(
     alloc: Global,
     gate: &G,
@@ -117,9 +99,9 @@ fn play_sprint<G: Gate>(
     requires few { length state.old.seats ≤ variable_limit }
     ensures { IfOk result (PlaysSprint state.old notes.old state.new notes.new) }
 {
-    let mut still = play_all(alloc, gate, state, notes, takes)?;
-    for _ in 1..MOST_TURNS {
-        if play_turn(alloc, gate, state, notes, takes)? {
+    let mut still = true;
+    for _ in 0..MOST_TURNS {
+        if play_all(alloc, gate, state, notes, takes)? {
             return Ok(still);
         }
         still = false;
@@ -153,14 +135,12 @@ fn play_sprints<G: Gate>(
 }
 
 /// Plays the agents on this thread, in rounds from the start state, and returns the outcome. The log
-/// of the run is included exactly when one is requested. One loop plays the agents with a log and
-/// without one, but no clause compares the two runs.
+/// of the run is included exactly when one is requested. By [`runs_go_one_way`] the run is the same
+/// with a log and without one.
 ///
-/// A turn visits agents in ascending order. Each of them that has not ended and has something
-/// pending makes one event: it takes from each sender what is pending, at most 64 messages. The
-/// first turn of a round visits all agents. Each later turn visits those that were sent something
-/// since they were last looked at; no clause says whom a turn visits. A round ends with a turn that
-/// takes nothing, or with its 32nd turn. Playing stops when, after the start or a round, all agents
+/// In a turn, in ascending order, each agent that has not ended and has something pending makes one
+/// event: it takes from each sender what is pending, at most 64 messages. A round ends with a turn
+/// that takes nothing, or with its 32nd turn. Playing stops when, after the start or a round, all agents
 /// have ended, the deliveries are at least `budget`, or the round had no event. So there are at most
 /// `budget` rounds. The budget must be at most 10,000,000. An agent passes the gate when it is
 /// looked at and something may wait for it.
@@ -189,8 +169,7 @@ pub fn play_out_logged<G: Gate>(
     Ok(PlayedOut { outcome, log })
 }
 
-/// The outcome of agents that are played by the loop of [`play_out_logged`], without a log. No
-/// clause compares the two runs.
+/// The outcome of agents that are played as [`play_out_logged`] plays them, without a log.
 ///
 /// # Errors
 ///

@@ -1,4 +1,4 @@
-use Rattle.std.proofs.Common.{◌≡◌, ◌<◌, ℕ, Bool, false, List, length, slice_set, refl, sym, ap, subst, ◌∙◌}
+use Rattle.std.proofs.Common.{◌≡◌, ◌<◌, ℕ, Bool, false, List, length, slice_set, refl, sym, subst, ◌∙◌}
 use Rattle.std.proofs.lemmas.Bool.{eqb-true}
 use Rattle.std.proofs.lemmas.Option.{slice_get_read}
 use Rattle.protocol_steps.specs.declared.event.Take.{Take}
@@ -17,5 +17,5 @@ invariant_of-self-then-is_empty g c =
     let there = slice_get_read seats (length seats) me x refl lt c.index.ensures in
     let empty : length c.list_takes.new.takes.items ≡ 0 = sym c.list_takes.new.takes.ok.0 ∙ eqb-true c.list_takes.new.takes.len 0 (sym {A = Bool} c.is_empty.ensures ∙ c.if-is_empty.true) in
     let none = sym {A = List Take} c.in_ok-list_takes.ensures ∙ no_items {A = Take} c.list_takes.new.takes.items empty in
-    let set : slice_set c.self.inside.arrivals me false ≡ c.settle.new.self = sym {A = List Bool} (c.settle.ensures ∙ ap (λ (busy : List Bool). slice_set busy me false) c.forget.ensures) in
+    let set : slice_set c.self.inside.arrivals me false ≡ c.settle.new.self = sym {A = List Bool} c.settle.ensures in
     subst (λ (busy : List Bool). KnowsBusy busy seats) set (one_calm c.self.inside.arrivals seats me x c.self.invariant there none)
