@@ -9,11 +9,11 @@ use Rattle.answer_io.specs.Input.{Input, Unread, Broken, TooLong, Whole, source_
 use Rattle.answer_io.proofs.InputLaws.{taken-least}
 use Rattle.solve_report.specs.AnswerText.{answer_text}
 use Rattle.solve_report.specs.declared.answer.Answer.{Answer}
-use Rattle.solve_top.specs.Answering.{IsInputAnswer, IsAnswer}
-use Rattle.solve_top.specs.declared.task.Task.TheVariants.{File}
-use Rattle.solve_top.specs.declared.task.FileTask.TheVariants as tasks
-use Rattle.solve_top.specs.Solving.{Answered}
-use Rattle.solve_top.specs.Same.{AreReadAlike, DpopAnswersAreOne, IsGiven}
+use Rattle.solve_answers.specs.Answering.{IsInputAnswer, IsAnswer}
+use Rattle.solve_answers.specs.declared.task.Task.TheVariants.{File}
+use Rattle.solve_answers.specs.declared.task.FileTask.TheVariants as tasks
+use Rattle.solve_answers.specs.Answered.{Answered}
+use Rattle.solve_answers.specs.Same.{AreReadAlike, DpopAnswersAreOne, IsGiven}
 use Rattle.serve_replies.specs.Reply.{dpop_words, input_of, IsReply}
 use Rattle.serve_replies.proofs.WordLaws.{asks_dpop, of_words, to_words, own_answer}
 

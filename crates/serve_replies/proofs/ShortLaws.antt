@@ -36,9 +36,9 @@ use Rattle.solve_report.specs.AnswerText.{answer_text}
 use Rattle.solve_report.specs.declared.answer.Answer.{Answer}
 use Rattle.solve_report.specs.declared.answer.Answer.TheVariants as answers
 use Rattle.solve_words.specs.declared.command.Format.TheVariants.{Dcop as Own}
-use Rattle.solve_top.specs.Answering.{IsInputAnswer, IsTextAnswer}
-use Rattle.solve_top.specs.declared.task.Task.TheVariants.{File}
-use Rattle.solve_top.specs.declared.task.FileTask.TheVariants as tasks
+use Rattle.solve_answers.specs.Answering.{IsInputAnswer, IsTextAnswer}
+use Rattle.solve_answers.specs.declared.task.Task.TheVariants.{File}
+use Rattle.solve_answers.specs.declared.task.FileTask.TheVariants as tasks
 use Rattle.serve_replies.specs.Reply.{input_of, IsReply}
 use Rattle.serve_replies.proofs.WordLaws.{of_words}
 use Rattle.serve_replies.proofs.NameReadLaws.{IsNamed, IsWholeSo, read_so}

@@ -8,11 +8,11 @@ use Rattle.solve_words.specs.declared.command.Format.TheVariants.{Dcop as Own}
 use Rattle.solve_words.specs.declared.fault.WordFault.{WordFault}
 use Rattle.answer_io.specs.Input.{Input}
 use Rattle.solve_report.specs.declared.answer.Answer.{Answer}
-use Rattle.solve_top.specs.Answering.{IsInputAnswer, IsCommandAnswer, IsAnswer}
-use Rattle.solve_top.specs.Nodes.{nodes_of, AskForNodes, IsLinkAnswer}
-use Rattle.solve_top.specs.Same.{AskForDpop, IsGiven}
-use Rattle.solve_top.specs.declared.task.Task.TheVariants.{File}
-use Rattle.solve_top.specs.declared.task.FileTask.TheVariants as tasks
+use Rattle.solve_answers.specs.Answering.{IsInputAnswer, IsCommandAnswer, IsAnswer}
+use Rattle.solve_answers.specs.Nodes.{nodes_of, AskForNodes, IsLinkAnswer}
+use Rattle.solve_answers.specs.Same.{AskForDpop, IsGiven}
+use Rattle.solve_answers.specs.declared.task.Task.TheVariants.{File}
+use Rattle.solve_answers.specs.declared.task.FileTask.TheVariants as tasks
 use Rattle.serve_replies.specs.Reply.{dpop_words}
 
 -- the command of these words

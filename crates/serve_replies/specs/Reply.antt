@@ -4,7 +4,7 @@ use Rattle.dcop_base.specs.Limits.{input_limit}
 use Rattle.answer_io.specs.Input.{Input, TooLong, Whole}
 use Rattle.solve_report.specs.AnswerText.{answer_text}
 use Rattle.solve_report.specs.declared.answer.Answer.{Answer}
-use Rattle.solve_top.specs.Answering.{IsAnswer}
+use Rattle.solve_answers.specs.Answering.{IsAnswer}
 
 -- the words `solve --method dpop`
 abbrev pub dpop_words : List (List ℕ)

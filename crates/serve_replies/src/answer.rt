@@ -5,8 +5,8 @@ ghost use Rattle.serve_replies.specs.Reply.{dpop_words, IsReply};
 
 use dcop_base::{Bytes, NoMemory};
 use dcop_edge::{OpenGate, SteadySource};
+use solve_answers::answer_of;
 use solve_report::text_of;
-use solve_top::answer_of;
 use std::alloc::{AllocGlobal, Global};
 use std::marker::Sync;
 use std::net::Net;

@@ -6,7 +6,7 @@ use crate::answer::answer_bytes;
 use crate::handles::ThreadsAlone;
 use dcop_base::{Bytes, NoMemory};
 use reply_cache::{FreshMaker, Look, Maker};
-use solve_top::dpop_answers_are_one;
+use solve_answers::dpop_answers_are_one;
 use std::alloc::Global;
 use std::marker::Sync;
 use std::sync::Wait;

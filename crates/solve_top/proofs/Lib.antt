@@ -1,13 +1,4 @@
-mod BlankLaws
-pub mod SameLaws
-pub mod CertificateLaws
 pub mod PrintedLaws
-mod EditLaws
-mod GivenLaws
-mod ServedLaws
-mod AnswerLaws
-mod OneLaws
+mod EditedLaws
+mod WellLaws
 mod ShowLaws
-mod LinkNameLaws
-mod LinkAnswerLaws
-mod LinklessLaws

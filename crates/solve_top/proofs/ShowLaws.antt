@@ -10,10 +10,12 @@ use Rattle.answer_io.specs.Showing.{ShowsAnswer, StaysUnless}
 use Rattle.answer_io.specs.Statuses.{status_of}
 use Rattle.answer_io.proofs.ShowLaws as shows
 use Rattle.solve_words.specs.declared.command.Format.TheVariants.{Dcop as Own}
-use Rattle.solve_top.specs.declared.task.Task.TheVariants.{File}
-use Rattle.solve_top.specs.Nodes.{AskForNodes, TellsAnswer}
-use Rattle.solve_top.specs.Solving.{GoesWell, Answered, Accepts, AsksDrill, Solves}
-use Rattle.solve_top.proofs.AnswerLaws.{Rose-answered, stays-answered, well-answered, drill-well}
+use Rattle.solve_answers.specs.declared.task.Task.TheVariants.{File}
+use Rattle.solve_answers.specs.Nodes.{AskForNodes, TellsAnswer}
+use Rattle.solve_answers.specs.Answered.{Answered}
+use Rattle.solve_answers.proofs.AnswerLaws.{Rose-answered, stays-answered}
+use Rattle.solve_top.specs.Solving.{GoesWell, Accepts, AsksDrill, Solves}
+use Rattle.solve_top.proofs.WellLaws.{well-answered, drill-well}
 
 pub read-so : (words : List (List ℕ)) (source source' : SourceState) (answer : Answer) → Answered words source source' answer
     → (sink sink' : SinkState) (faults faults' : ℕ) (status : Status) → ShowsAnswer answer sink sink' faults faults' status → status ≡ ReadFault

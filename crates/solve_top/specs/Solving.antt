@@ -1,7 +1,6 @@
 -- What a top call does: it finds an answer and shows it.
 use Rattle.std.specs.Prelude.{◌≡◌, ℕ, ◌≤◌, ◌⊎◌, List, [], ◌∷◌, ◌++◌, length, take, drop, ◌+◌, Some, None, Ok, IsTrue, is_some}
 use Rattle.dcop_base.specs.Table.{product}
-use Rattle.dcop_base.specs.Whole.{IsProblem}
 use Rattle.dcop_base.specs.Limits.{assignment_limit, input_limit, size_limit}
 use Rattle.problem_text.specs.Declarations.{Declared}
 use Rattle.problem_text.specs.File.{TextFile}
@@ -21,34 +20,25 @@ use Rattle.solve_words.specs.Command.{answer_to}
 use Rattle.solve_report.specs.declared.answer.Answer.{Answer}
 use Rattle.answer_io.specs.declared.status.Status.{Status}
 use Rattle.answer_io.specs.declared.status.Status.TheVariants as statuses
-use Rattle.solve_top.specs.declared.task.Task.{Task}
-use Rattle.solve_top.specs.declared.task.Task.TheVariants.{File, Check, Replay, Edit}
-use Rattle.solve_top.specs.declared.task.FileTask.{FileTask}
-use Rattle.solve_top.specs.declared.task.FileTask.TheVariants as tasks
-use Rattle.solve_top.specs.Answering.{IsAnswer, IsFileAnswer}
-use Rattle.solve_top.specs.Nodes.{AskForNodes, IsLinkAnswer, TellsAnswer}
+use Rattle.solve_answers.specs.declared.task.Task.{Task}
+use Rattle.solve_answers.specs.declared.task.Task.TheVariants.{File, Check, Replay, Edit}
+use Rattle.solve_answers.specs.declared.task.FileTask.{FileTask}
+use Rattle.solve_answers.specs.declared.task.FileTask.TheVariants as tasks
+use Rattle.solve_answers.specs.Answering.{IsFileAnswer}
+use Rattle.solve_answers.specs.Nodes.{AskForNodes, TellsAnswer}
+use Rattle.solve_answers.specs.Answered.{Answered}
+use Rattle.solve_answers.specs.FitTree.{HasFitTree}
 use Rattle.solve_top.specs.Taken.{AreLinesTaken}
 use Rattle.solve_cut.specs.Allowed.{HasAllowedCut}
-use Rattle.solve_methods.specs.Dpop.{wide_in}
-use Rattle.minimised_problem.specs.Goal.{solved}
-use Rattle.solve_methods.specs.Goal.{TellsRight}
-use Rattle.answer_io.specs.Input.{Input, SourceState, IsReadFrom}
+use Rattle.answer_io.specs.Input.{SourceState}
 use Rattle.answer_io.specs.Output.{SinkState}
 use Rattle.answer_io.specs.Showing.{IsWholeShown, IsCutShort}
-use Rattle.solve_top.specs.Served.{task_of, IsFileTaskInRange}
-use Rattle.solve_top.specs.Drilling.{drill_of, made_for}
-use Rattle.solve_top.specs.declared.drilling.Drill.{Drill}
+use Rattle.solve_answers.specs.Served.{task_of, IsFileTaskInRange}
+use Rattle.solve_answers.specs.Drilling.{drill_of, made_for}
+use Rattle.solve_answers.specs.declared.drilling.Drill.{Drill}
 use Rattle.answer_io.specs.InputTold.{DeclaredInput}
 use Rattle.answer_io.specs.Inputs.{input_read}
 use Rattle.answer_io.specs.Fronts.{front_read, lines_in}
-
--- an answer to words, possibly about the links between nodes, with the input read for it from a
--- source with this state before and this state after
-pub record Answered (words : List (List ℕ)) (before after : SourceState) (answer : Answer) : Type 0 where
-  pub input : Input
-  pub read : IsReadFrom input before after
-  pub belongs : IsAnswer words input answer ⊎ IsLinkAnswer words input answer
-  pub right : TellsRight answer
 
 -- a call on these words found an answer and showed it, or its sink failed after a prefix of it;
 -- `honest` states that its dialer is honest, and the dialer's count of faults was `old` and is
@@ -58,14 +48,6 @@ pub record Solves (words : List (List ℕ)) (honest : Type 0) (old new : ℕ) (s
   pub answered : Answered words source source' answer
   pub links : TellsAnswer (AskForNodes words) honest old new answer
   pub shown : IsWholeShown answer sink sink' status ⊎ IsCutShort answer sink sink' status
-
--- a text that declares this is a file, and the depth-first tree of its problem solved is narrow and
--- light, so that nothing is too wide
-pub record HasFitTree (d : Declared) : Type 0 where
-  pub file : TextFile
-  pub whole : IsProblem file.problem
-  pub declared : declared_by file ≡ d
-  pub fits : wide_in (solved file.goal file.problem) ≡ None
 
 -- a task is within its limits: the assignments that plain tries, the width of the tree for DPOP,
 -- and what refuses a cut

@@ -6,13 +6,12 @@ ghost use Rattle.dcop_edge.specs.Faults.{Rose};
 ghost use Rattle.answer_io.specs.Input.{Took, read_limit, source_state};
 ghost use Rattle.answer_io.specs.Output.{sink_state};
 ghost use Rattle.answer_io.specs.Showing.{StaysUnless};
-ghost use Rattle.solve_top.specs.Nodes.{AskForNodes};
+ghost use Rattle.solve_answers.specs.Nodes.{AskForNodes};
 ghost use Rattle.solve_top.specs.Solving.{Solves, Accepts, AsksDrill, GoesWell};
 
-use crate::answering::answer_of;
-use crate::task::Task;
 use answer_io::{Status, show};
 use dcop_edge::{Gate, Sink, Source};
+use solve_answers::{Task, answer_of};
 use solve_words::Format;
 use std::alloc::Global;
 use std::net::Net;

@@ -12,9 +12,10 @@ use Rattle.minimised_problem.specs.LogHolds.{agents_for, HoldsLog}
 use Rattle.minimised_problem.proofs.PlayedLaws.{run-lawful, lawful-leads}
 use Rattle.solve_printed.specs.Replaying.{log_up_to}
 use Rattle.solve_top.specs.Solving.{IsLoggedFor}
-use Rattle.solve_top.proofs.CertificateLaws.{Certifies}
-use Rattle.solve_top.proofs.PrintedLaws.{certified, front_is, again, lawful-up-to}
-use Rattle.solve_top.proofs.SameLaws.{one_file}
+use Rattle.solve_answers.proofs.CertificateLaws.{Certifies}
+use Rattle.solve_answers.proofs.CheckedLaws.{lawful-up-to}
+use Rattle.solve_top.proofs.PrintedLaws.{certified, front_is, again}
+use Rattle.solve_answers.proofs.SameLaws.{one_file}
 use Rattle.trace_top.specs.Tracing.{TellsRun}
 use Rattle.trace_top.specs.declared.words.Asked.{Asked}
 use Rattle.trace_laws.specs.Printed.{PrintedReportsAreTraced}

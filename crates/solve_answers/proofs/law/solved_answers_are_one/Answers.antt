@@ -1,0 +1,6 @@
+use Rattle.solve_answers.proofs.OneLaws.{dpop_answers_one}
+use Rattle.solve_answers.proofs.GivenLaws.{solved_one}
+use Rattle.solve_answers.proofs.law.solved_answers_are_one.Goals as goal
+
+pub returns : goal.returns
+returns c = solved_one (dpop_answers_one c.first_optima_of_trees_are_one.ensures c.depth_first_trees_are_linked.ensures)

@@ -1,0 +1,72 @@
+//! The laws of the answers of DPOP, auto, `drill` and `edit`.
+
+ghost use Rattle.solve_answers.specs.Same.{AutoAnswersAreThoseOfDpop, DpopAnswersAreOne, DrillAnswersAreOne, EditAnswersAreThoseOfDpop, FitAnswersAreOne, SolvedAnswersAreOne};
+
+use dcop_optimum::first_optima_of_trees_are_one;
+use pseudotree::depth_first_trees_are_linked;
+
+/// The answer of `solve --method dpop` is one function of the file and of whether it is certified.
+/// Whatever the other words, such as the number of workers, all texts of one file have the same
+/// answer.
+///
+/// The law is the contract of a call that does nothing: to use the law, call it.
+pub fn dpop_answers_are_one()
+    ensures { DpopAnswersAreOne }
+{
+    first_optima_of_trees_are_one();
+    depth_first_trees_are_linked();
+}
+
+/// With any number of nodes, the solved answers of `solve --method dpop` are one function of the
+/// file and of whether they are certified. Over untrusted wires a call may also answer that links
+/// failed or differ.
+///
+/// The law is the contract of a call that does nothing: to use the law, call it.
+pub fn solved_answers_are_one()
+    ensures { SolvedAnswersAreOne }
+{
+    first_optima_of_trees_are_one();
+    depth_first_trees_are_linked();
+}
+
+/// If nothing is too wide for DPOP in the tree of the problem read, the answer of `solve --method
+/// auto` is that of `solve --method dpop`. So it is solved, and one function of the file.
+///
+/// The law is the contract of a call that does nothing: to use the law, call it.
+pub fn auto_answers_are_those_of_dpop()
+    ensures { AutoAnswersAreThoseOfDpop }
+{}
+
+/// If nothing is too wide for DPOP in the tree of the problem read, any two solved answers of
+/// `solve --method auto` or `--method dpop` are the same, if both are certified or neither is. This
+/// holds for any number of workers and of nodes.
+///
+/// The law is the contract of a call that does nothing: to use the law, call it.
+pub fn fit_answers_are_one()
+    ensures { FitAnswersAreOne }
+{
+    first_optima_of_trees_are_one();
+    depth_first_trees_are_linked();
+}
+
+/// All solved answers of `drill --method dpop` to words that ask for the same problem are the same,
+/// with any number of workers and of nodes. So each run has the same summary.
+///
+/// The law is the contract of a call that does nothing: to use the law, call it.
+pub fn drill_answers_are_one()
+    ensures { DrillAnswersAreOne }
+{
+    first_optima_of_trees_are_one();
+    depth_first_trees_are_linked();
+}
+
+/// An optimum that `edit` answers has the values and the cost that `solve --method dpop` reports
+/// for a text that declares the problem as edited so far, for either goal.
+///
+/// The law is the contract of a call that does nothing: to use the law, call it.
+pub fn edit_answers_are_those_of_dpop()
+    ensures { EditAnswersAreThoseOfDpop }
+{
+    first_optima_of_trees_are_one();
+    depth_first_trees_are_linked();
+}

@@ -1,5 +1,0 @@
-use Rattle.solve_top.proofs.OneLaws.{auto_answers_dpop}
-use Rattle.solve_top.proofs.law.auto_answers_are_those_of_dpop.Goals as goal
-
-pub returns : goal.returns
-returns c = auto_answers_dpop

@@ -1,5 +1,0 @@
-use Rattle.solve_top.proofs.OneLaws.{edit_answers_dpop}
-use Rattle.solve_top.proofs.law.edit_answers_are_those_of_dpop.Goals as goal
-
-pub returns : goal.returns
-returns c = edit_answers_dpop c.first_optima_of_trees_are_one.ensures c.depth_first_trees_are_linked.ensures

@@ -1,5 +1,0 @@
-use Rattle.solve_top.proofs.OneLaws.{fit_answers_one}
-use Rattle.solve_top.proofs.law.fit_answers_are_one.Goals as goal
-
-pub returns : goal.returns
-returns c = fit_answers_one c.first_optima_of_trees_are_one.ensures c.depth_first_trees_are_linked.ensures
