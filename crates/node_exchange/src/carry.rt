@@ -17,7 +17,8 @@ use std::time::Clock;
 use wire_pump::{DialFault, Dialer, PumpFail, Pumped, pump_by};
 
 /// Sends one list of bytes in each direction over the two wires between two nodes. If both lists
-/// are empty, the wires are not used. A wire that failed is charged to the dialer, and both are gone.
+/// are empty, the wires are not used. A wire that failed is charged to the dialer. After a fault
+/// both wires are gone.
 pub(crate) fn carry<R, D>(
     rt: &R,
     alloc: Global,

@@ -38,7 +38,7 @@ use wire_pump::Dialer;
 /// - [`PassFault::NoMemory`] if memory runs out.
 ///
 /// In any case the wires that were used are at the end of the list, in their order. After
-/// [`PassFault::Failed`] or [`PassFault::NoMemory`] one pair may be gone, which was the next in turn.
+/// [`PassFault::Failed`] or [`PassFault::NoMemory`] the pair that was the next in turn may be gone.
 /// After a fault letters may have been added.
 pub fn pass_all<R, D>(
     rt: &R,
@@ -54,7 +54,8 @@ where
     requires across { AreAcross nodes passings.old }
     requires wires { 1 < nodes → 0 < length wires.old.items }
     ensures same { EachAre SamePassing passings.old passings.new }
-    ensures wires { AreTurned D.W.told D.W.is_joined (lost_by result) wires.old.items wires.new.items }
+    ensures wires { AreTurned D.W.told D.W.is_joined (lost_by result)
+        wires.old.items wires.new.items }
     ensures cause { HasPassCause (D.faults dialer.old) (D.faults dialer.new) result }
     ensures dialer { D.is_honest dialer.old → D.is_honest dialer.new }
     ensures differs { IfErr result (IsByteFault nodes passings.old) }
@@ -88,7 +89,8 @@ where
     requires across { AreAcross nodes passings.old }
     requires wires { 1 < nodes → 0 < length wires.old.items }
     ensures same { EachAre SamePassing passings.old passings.new }
-    ensures wires { AreTurned D.W.told D.W.is_joined (lost_by result) wires.old.items wires.new.items }
+    ensures wires { AreTurned D.W.told D.W.is_joined (lost_by result)
+        wires.old.items wires.new.items }
     ensures cause { HasPassCause (D.faults dialer.old) (D.faults dialer.new) result }
     ensures dialer { D.is_honest dialer.old → D.is_honest dialer.new }
     ensures differs { IfErr result (IsByteFault nodes passings.old) }
@@ -121,7 +123,8 @@ where
     requires across { (nodes : ℕ) × AreAcross nodes passings.old }
     requires wires { 0 < length wires.old.items }
     ensures same { EachAre SamePassing passings.old passings.new }
-    ensures wires { AreTurned D.W.told D.W.is_joined (lost_by result) wires.old.items wires.new.items }
+    ensures wires { AreTurned D.W.told D.W.is_joined (lost_by result)
+        wires.old.items wires.new.items }
     ensures cause { HasPassCause (D.faults dialer.old) (D.faults dialer.new) result }
     ensures dialer { D.is_honest dialer.old → D.is_honest dialer.new }
     ensures differs { (nodes : ℕ) → AreTwo nodes first second → IfErr result (IsByteFault nodes passings.old) }
