@@ -7,8 +7,8 @@ use Rattle.delivery_core.specs.Takes.{KnowsBusy}
 use Rattle.delivery_core.proofs.CalmLaws.{one_calm, no_items}
 use Rattle.delivery_core.proofs.state.CoreState.list_takes.Goals as goal
 
-pub invariant_of-self-then-is_empty : goal.invariant_of-self-then-is_empty
-invariant_of-self-then-is_empty g c =
+pub invariant_of-self : goal.invariant_of-self
+invariant_of-self g c =
     let seats = c.self.inside.seats.items in
     let x : SeatView = c.index.result.now in
     let known : c.args.me < length seats = subst (λ (s : CoreView). c.args.me < length s.seats) (sym c.self.view_is) c.requires in
