@@ -2,6 +2,8 @@
 use Rattle.std.proofs.Common.{◌≡◌, ℕ, ◌<◌, ◌≤◌, List, [], length, Option, Result, Ok, Err, IfErr, refl, sym, ap, subst, ◌∙◌}
 use Rattle.std.specs.List.{All}
 use Rattle.std.specs.Result.{IsErrAnd}
+use Rattle.std.specs.declared.dyn_box.DynBox.{DynBox}
+use Rattle.std.specs.declared.alloc.Global.{Global}
 use Rattle.dcop_base.specs.Problem.{Dcop}
 use Rattle.dcop_edge.specs.Faults.{Rose}
 use Rattle.pseudotree.specs.DepthFirst.{dfs}
@@ -10,9 +12,12 @@ use Rattle.pseudotree.specs.declared.width.Wide.{Wide}
 use Rattle.protocol_steps.specs.View.{View}
 use Rattle.delivery_core.specs.declared.start.Start.{Start}
 use Rattle.delivery_core.specs.Agents.{agents_of, IsStartFor}
-use Rattle.worker_laws.specs.Cells.{CellState}
+use Rattle.worker_laws.specs.CellRounds.{AreStarted}
 use Rattle.worker_laws.specs.OneNode.{home}
 use Rattle.worker_laws.specs.Wires.{Wire}
+use Rattle.agent_cells.specs.declared.cell.Cell.{Cell}
+use Rattle.agent_workers.specs.Joined.{states_of}
+use Rattle.agent_workers.specs.Run.{views_of}
 use Rattle.agent_links.specs.Links.{pairs_to}
 use Rattle.agent_links.specs.Seats.{all_neighbours}
 use Rattle.wire_pump.specs.Wire.{Told}
@@ -21,7 +26,7 @@ use Rattle.tcp_links.specs.declared.fault.NodeFault.{NodeFault}
 use Rattle.tcp_links.specs.declared.fault.NodeFault.TheVariants.{Failed, Differs, NoMemory}
 use Rattle.tcp_links.specs.declared.plan.NodePlan.{NodePlan}
 use Rattle.tcp_links.specs.Plans.{IsBetween, AreOrdered, IsHonest}
-use Rattle.tcp_links.specs.Ends.{IsDifference, HasDifference, DiffersOver}
+use Rattle.tcp_links.specs.Ends.{IsDifference, HasComeTo, IsLeftBy}
 use Rattle.tcp_links.specs.Faults.{IsOtherFault, HasNodeCause}
 use Rattle.node_exchange.specs.Honest.{AreHonest}
 use Rattle.node_seats.specs.Links.{node_in, KeepsPairs}
@@ -45,6 +50,7 @@ differed_in p is_phase is_phase' nodes d kind h = record {
   fresh = h.fresh;
   started = h.started;
   starts = h.starts;
+  left = h.left;
   last = h.last;
   right = h.right;
 }
@@ -84,10 +90,11 @@ pub frame_honest : {W : Type 0} (told : W → Told) (is_joined : W → W → Typ
 frame_honest {W} told is_joined before after frame honest = subst (λ (ws : List (W × W)). AreHonest told is_joined ws) (sym frame.wires) honest
 
 -- what a run of nodes says of links: agents of a start were run so over a plan that a frame keeps, whose links were new
-module _ {W : Type 0} (p : Dcop) (start : Start) (fits : IsStartFor p start) (budget : ℕ) (before plan : NodePlan W) (nodes_are : plan.nodes ≡ before.nodes) (agents_are : plan.agents ≡ length p.sizes)
+module _ {X : Type 0} {F : X → Type 0} (M : DynBox X Global F → View) {W : Type 0} (p : Dcop) (start : Start) (fits : IsStartFor p start) (workers budget : ℕ) (before plan : NodePlan W) (nodes_are : plan.nodes ≡ before.nodes) (agents_are : plan.agents ≡ length p.sizes)
     (between : All (IsBetween (length p.sizes) plan.nodes) plan.kept.items) (fresh : All (λ (w : Wire). w.passages ≡ []) plan.kept.items)
-    (ordered : AreOrdered plan.kept.items) (pairs : KeepsPairs (node_in plan) plan.kept.items (pairs_to (all_neighbours p) (length (all_neighbours p)))) (last : List CellState) where
-  differed : (d : Difference) → HasDifference budget (agents_of p start) plan last d → HaveDiffered p (IsPhase start budget) before.nodes d
+    (ordered : AreOrdered plan.kept.items) (pairs : KeepsPairs (node_in plan) plan.kept.items (pairs_to (all_neighbours p) (length (all_neighbours p))))
+    (made last : List (Cell X F)) (are : views_of M made ≡ agents_of p start) (after : List Wire) where
+  differed : (d : Difference) → HasComeTo M workers budget plan made after last (Differs d) → HaveDiffered p (IsPhase start budget) before.nodes d
   differed d h = record {
     start = start;
     fits = fits;
@@ -101,17 +108,17 @@ module _ {W : Type 0} (p : Dcop) (start : Start) (fits : IsStartFor p start) (bu
         (subst (λ (n : ℕ). KeepsPairs (home plan.nodes n) plan.kept.items (pairs_to (all_neighbours p) (length (all_neighbours p)))) agents_are pairs);
     fresh = fresh;
     started = h.started;
-    starts = h.starts;
-    last = last;
+    starts = subst (λ (vs : List View). AreStarted vs h.started) are h.starts;
+    left = after;
+    last = states_of M last;
     right =
-        subst (λ (k : ℕ). IsDifference k (home k (length p.sizes)) budget plan.kept.items h.started last d) nodes_are
-        (subst (λ (n : ℕ). IsDifference plan.nodes (home plan.nodes n) budget plan.kept.items h.started last d) agents_are h.right);
+        subst (λ (k : ℕ). IsDifference k (home k (length p.sizes)) budget plan.kept.items h.started after (states_of M last) d) nodes_are
+        (subst (λ (n : ℕ). IsDifference plan.nodes (home plan.nodes n) budget plan.kept.items h.started after (states_of M last) d) agents_are h.fault);
   }
 
-  pub ran_fails : {T : Type 0} (made : List View) → made ≡ agents_of p start → (many : 1 < before.nodes) (honest : Type 0) (old new : ℕ) (r : Result T NodeFault) → HasNodeCause old new r → (honest → IfErr r IsOtherFault) → IfErr r (DiffersOver budget made plan last)
+  pub ran_fails : {T : Type 0} (many : 1 < before.nodes) (honest : Type 0) (old new : ℕ) (r : Result T NodeFault) → HasNodeCause old new r → (honest → IfErr r IsOtherFault) → IfErr r (IsLeftBy M workers budget plan made after last)
       → MayFail {T = T} p (IsPhase start budget) before.nodes honest old new r
-  ran_fails made are many honest old new (Ok value) cause none differs = cause
-  ran_fails made are many honest old new (Err Failed) cause none differs = (many, cause.0, cause.1)
-  ran_fails made are many honest old new (Err (Differs d)) cause none differs =
-      (many, cause, (λ (h : honest). none h), differed d (subst (λ (vs : List View). HasDifference budget vs plan last d) are differs))
-  ran_fails made are many honest old new (Err NoMemory) cause none differs = cause
+  ran_fails many honest old new (Ok value) cause none left = cause
+  ran_fails many honest old new (Err Failed) cause none left = (many, cause.0, cause.1)
+  ran_fails many honest old new (Err (Differs d)) cause none left = (many, cause, (λ (h : honest). none h), differed d left)
+  ran_fails many honest old new (Err NoMemory) cause none left = cause

@@ -31,5 +31,6 @@ pub record HaveDiffered (p : Dcop) (is_phase : Start → ℕ → Type 0) (nodes 
   pub fresh : All (λ (w : Wire). w.passages ≡ []) links
   pub started : List CellState
   pub starts : AreStarted (agents_of p start) started
+  pub left : List Wire
   pub last : List CellState
-  pub right : IsDifference nodes (home nodes (length p.sizes)) budget links started last d
+  pub right : IsDifference nodes (home nodes (length p.sizes)) budget links started left last d

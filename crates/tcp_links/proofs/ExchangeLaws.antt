@@ -45,6 +45,7 @@ use Rattle.tcp_links.specs.Kept.{IsLinkKept, IsNoted, AreNoted, IsToNote, AreToN
 use Rattle.tcp_links.proofs.NotedLaws.{kept_noted}
 use Rattle.tcp_links.specs.Faults.{node_fault, IsOtherFault}
 use Rattle.tcp_links.specs.Woven.{IsPassingOf, IsLinkIdle, AreLinksIdle, AreLinksOf, AreEmptied, IsWoven, AreWoven, CanDrainAll, CanFeed, CanFeedAll, AreStill, SentWasDrained, FedWasTaken, SentIsDrained, FedIsTaken, HaveCaughtUp, HasDrainedLink, HaveDrained, HasFedLink, HaveFed}
+use Rattle.tcp_links.specs.Broken.{IsPartExchange, IsLostExchange}
 use Rattle.tcp_links.specs.Over.{IsDrainedOf, HasExchanged, IsExchangeFault}
 use Rattle.tcp_links.proofs.OrderLaws.{ordered_passed}
 use Rattle.tcp_links.proofs.DrainLaws.{tail_still}
@@ -82,7 +83,7 @@ home_below nodes agents i some lt =
     (div-lt_iff_lt-mul {k = agents} {x = i * nodes} {y = nodes} any).1 turned
 
 -- a link on which an exchange was kept
-passed_keeps : (w : Wire) (ds es : List (ℕ × Message)) → HasPassed w (keeps w ds es)
+pub passed_keeps : (w : Wire) (ds es : List (ℕ × Message)) → HasPassed w (keeps w ds es)
 passed_keeps w [] [] = record { passage = None; receiver = refl; sender = refl; passages = refl }
 passed_keeps w [] (e ∷ es) = record { passage = Some (record { drained = []; arrived = e ∷ es }); receiver = refl; sender = refl; passages = refl }
 passed_keeps w (d ∷ ds) es = record { passage = Some (record { drained = d ∷ ds; arrived = es }); receiver = refl; sender = refl; passages = refl }
@@ -304,17 +305,22 @@ module _ {X : Type 0} {F : X → Type 0} (M : DynBox X Global F → View) where
           ∙ sym on.link.more.taken ∙ on.link.all ∙ ap (λ (x : Cell X F). lane w.receiver (state_of M x).sent) same ∙ ap (λ (x : CellState). lane w.receiver x.sent) c.2;
     })
 
-    -- a difference of bytes
-    pub fault_on : {W : Type 0} (round : ℕ) (p : NodePlan W) (f : PassFault) → p.nodes ≡ nodes → p.agents ≡ agents → p.kept.items ≡ ws → IsByteFault nodes ps f → IsExchangeFault M round p cells (node_fault round f)
-    fault_on round p Failed n a k h = tt
-    fault_on round p (Bytes from_node to_node place sent taken) n a k h = record {
-      passings = ps;
-      drained = subst (λ (vs : List Wire). EachAre (IsDrainedOf (home p.nodes p.agents) (states_of M cells)) vs ps) (sym k)
-          (subst (λ (x : ℕ). EachAre (IsDrainedOf (home x p.agents) (states_of M cells)) ws ps) (sym n)
-          (subst (λ (x : ℕ). EachAre (IsDrainedOf (home nodes x) (states_of M cells)) ws ps) (sym a) all_drained));
-      fault = (refl, subst (λ (x : ℕ). IsByteBetween x ps from_node to_node place sent taken) (sym n) h);
-    }
-    fault_on round p NoMemory n a k h = tt
+    -- a fault of passing, before any link has passed anything
+    pub fault_on : {W : Type 0} (round : ℕ) (p : NodePlan W) (left : List Wire) (last : List (Cell X F)) (f : PassFault) → p.nodes ≡ nodes → p.agents ≡ agents → p.kept.items ≡ ws
+        → IsLostExchange p.kept.items left (states_of M cells) (states_of M last) → IsPartExchange p.kept.items left (states_of M cells) (states_of M last)
+        → IsByteFault nodes ps f → IsExchangeFault M round p cells left last (node_fault round f)
+    fault_on round p left last Failed n a k lost part h = lost
+    fault_on round p left last (Bytes from_node to_node place sent taken) n a k lost part h = (
+      record {
+        passings = ps;
+        drained = subst (λ (vs : List Wire). EachAre (IsDrainedOf (home p.nodes p.agents) (states_of M cells)) vs ps) (sym k)
+            (subst (λ (x : ℕ). EachAre (IsDrainedOf (home x p.agents) (states_of M cells)) ws ps) (sym n)
+            (subst (λ (x : ℕ). EachAre (IsDrainedOf (home nodes x) (states_of M cells)) ws ps) (sym a) all_drained));
+        fault = (refl, subst (λ (x : ℕ). IsByteBetween x ps from_node to_node place sent taken) (sym n) h);
+      },
+      lost,
+    )
+    fault_on round p left last NoMemory n a k lost part h = part
 
     module _ (qs : List Passing) (vs : List Wire) (fs : List InnerEnds) (last : List (Cell X F))
         (same : EachAre SamePassing ps qs) (stays : EachBecomes (StaysQuiet M) mid last) (fed : HaveFed M (length ws) last ws vs ds fs qs) where

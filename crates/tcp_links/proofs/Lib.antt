@@ -5,6 +5,7 @@ mod FeedLaws
 mod KeptLaws
 mod WeaveLaws
 mod ExchangeLaws
+mod PartLaws
 mod LeftLaws
 mod NotedLaws
 mod LostLaws

@@ -106,3 +106,8 @@ noted_out (bytes round from_node to_node place sent taken) ws vs es out n = subs
 pub on_fault : {T E P : Type 0} (r : Result T E) → P → OnErr r P
 on_fault (Ok x) p = tt
 on_fault (Err e) p = p
+
+-- what follows of what is so after a fault
+pub fault_then : {T E P Q : Type 0} (r : Result T E) → (P → Q) → OnErr r P → OnErr r Q
+fault_then (Ok x) f p = tt
+fault_then (Err e) f p = f p

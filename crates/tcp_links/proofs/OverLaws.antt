@@ -30,6 +30,7 @@ use Rattle.worker_laws.specs.NodeRounds.{IsNodeRound, AreNodeRounds, ArePlayedOv
 use Rattle.worker_laws.specs.NodeStamps.{HasOnlyTaken}
 use Rattle.worker_laws.proofs.RoundLaws.{node_rounds_push}
 use Rattle.agent_cells.specs.declared.cell.Cell.{Cell}
+use Rattle.agent_cells.specs.declared.fault.VisitFault.{VisitFault}
 use Rattle.agent_cells.specs.declared.fault.VisitFault.TheVariants.{StampEnd}
 use Rattle.agent_cells.specs.State.{state_of, fault_in, tails_in, heads_in}
 use Rattle.agent_workers.specs.Joined.{states_of, EachIs, EachBecomes, IsSameCell, AreCellsJoined}
@@ -46,9 +47,11 @@ use Rattle.tcp_links.specs.declared.plan.InnerEnds.{InnerEnds}
 use Rattle.tcp_links.specs.declared.plan.NodePlan.{NodePlan}
 use Rattle.tcp_links.specs.Faults.{HasNodeCause}
 use Rattle.tcp_links.specs.Woven.{AreLinksIdle, SentWasDrained, FedWasTaken, HaveCaughtUp, AreWoven}
-use Rattle.tcp_links.specs.Over.{IsDrainedOf, AreReadyToExchange, IsPlanOver, HasExchanged, HasPassedOther, IsExchangeFault, ArePlayedSo, IsIdleOver, ArePlayedOutOver, HasBrokenOver, HasRoundOver, HasBrokenRound, ArePlayedTo}
+use Rattle.tcp_links.specs.Over.{IsDrainedOf, AreReadyToExchange, IsPlanOver, HasExchanged, IsExchangeFault, IsRoundFault, ArePlayedSo, IsIdleOver, ArePlayedOutOver, HasBrokenOver, HasRoundOver, HasBrokenRound, ArePlayedTo}
 use Rattle.node_exchange.specs.Faults.{IsByteBetween}
-use Rattle.tcp_links.specs.Ends.{AreThere, HasOtherByte, IsFaultOver}
+use Rattle.node_exchange.specs.Passings.{Passing}
+use Rattle.tcp_links.specs.Broken.{IsLostExchange}
+use Rattle.tcp_links.specs.Ends.{AreThere, HasLostOver, HasOtherByte, IsFaultOver}
 use Rattle.tcp_links.proofs.DrainLaws.{tail_still, head_none}
 use Rattle.tcp_links.proofs.FeedLaws.{heads_still}
 use Rattle.tcp_links.proofs.PlanLaws.{same_plan}
@@ -199,13 +202,17 @@ module _ {X : Type 0} {F : X → Type 0} (M : DynBox X Global F → View) where
     taken = ap (λ (t : CellState). t.taken) e.0 ∙ sym (grown_none s.taken);
     sent = ap (λ (t : CellState). t.sent) e.0;
   }
-  only_taken s c (inr failed) = let r = failed.2.end (failed.1 refl) in record { gains = r.gains; senders = r.senders; taken = r.taken; sent = r.sent }
+  only_taken s c (inr f) = let r = f.2.end (f.1 refl) in record { gains = r.gains; senders = r.senders; taken = r.taken; sent = r.sent }
 
   each_only : (ss : List CellState) (cells : List (Cell X F)) → EachAre (StandsOrFails M StampEnd) ss cells → EachAre HasOnlyTaken ss (states_of M cells)
   each_only [] [] h = tt
   each_only [] (c ∷ cells) h = absurd h
   each_only (s ∷ ss) [] h = absurd h
   each_only (s ∷ ss) (c ∷ cells) h = (only_taken s c h.0, each_only ss cells h.1)
+
+  -- so it is where more may have failed
+  fewer : (most workers : ℕ) → most ≤ workers → {fault : VisitFault} {ready : List CellState} {now : List (Cell X F)} → ArePartlyPlayed M fault IsMoved sprint_limit most ready now → ArePartlyPlayed M fault IsMoved sprint_limit workers ready now
+  fewer most workers le p = let few = p.few in record { stood = p.stood; gone = p.gone; most = p.most; came = p.came; few = omega (arith, few, le) }
 
   -- playing that has ended, as it is told
   pub ended_to : (node : ℕ → ℕ) (budget : ℕ) (begun : List Wire) (started : List CellState) (wires : List Wire) (now : List (Cell X F)) (count rounds : ℕ) (answer : RunEnd) (end : Option RunEnd)
@@ -305,25 +312,40 @@ module _ {X : Type 0} {F : X → Type 0} (M : DynBox X Global F → View) where
           fine = fine;
         }
 
+    -- a fault of the exchange before a round
+    pub round_fault : (workers round : ℕ) (p : NodePlan W) (left : List Wire) (cells last : List (Cell X F)) (e : NodeFault) → IsExchangeFault M round p cells left last e → IsRoundFault M workers round p cells left last e
+    round_fault workers round p left cells last Failed f = f
+    round_fault workers round p left cells last (Differs d) f = f
+    round_fault workers round p left cells last NoMemory f = inl f
+
     pub broken_made : (workers : ℕ) (before after last : NodePlan W) (cells ready now : List (Cell X F)) → HasExchanged M before cells after ready → last.kept.items ≡ after.kept.items → ArePartlyPlayed M StampEnd IsMoved sprint_limit workers (states_of M ready) now
         → SomeFailed StampEnd now → HasBrokenRound M before cells last now
     broken_made workers before after last cells ready now x kept b failed =
         record { ready = states_of M ready; exchange = subst (λ (ws : List Wire). IsExchange (home before.nodes before.agents) before.kept.items ws (states_of M cells) (states_of M ready)) (sym kept) x.exchange; stood = b.stood; moved = b.gone; most = b.most; came = b.came; failed = failed }
 
-    -- a byte that an exchange finds to differ, behind these rounds
-    pub byte_over : (budget round : ℕ) (begun : List Wire) (started : List CellState) (p q : NodePlan W) (cells : List (Cell X F)) (behind from_node to_node place : ℕ) (sent taken : Option ℕ) → IsPlanOver M p q cells
-        → AreThere (home p.nodes p.agents) budget begun started q.kept.items (states_of M cells) round → HasPassedOther M round q cells (Bytes behind from_node to_node place sent taken)
-        → HasOtherByte p.nodes (home p.nodes p.agents) budget begun started behind from_node to_node place sent taken
-    byte_over budget round begun started p q cells behind from_node to_node place sent taken o at f =
-        subst (λ (n : ℕ). HasOtherByte p.nodes (home p.nodes p.agents) budget begun started n from_node to_node place sent taken) (sym f.fault.0)
-        (record {
-          wires = q.kept.items;
-          now = states_of M cells;
-          there = at;
-          passings = f.passings;
-          drained = as_there (λ node. EachAre (IsDrainedOf node (states_of M cells)) q.kept.items f.passings) p q cells o f.drained;
-          other = subst (λ (n : ℕ). IsByteBetween n f.passings from_node to_node place sent taken) o.nodes f.fault.1;
-        })
+    -- what an exchange behind these rounds has made when it came to a fault
+    module _ (workers budget round : ℕ) (begun : List Wire) (started : List CellState) (p q r : NodePlan W) (cells last : List (Cell X F)) (o : IsPlanOver M p q cells)
+        (at : AreThere (home p.nodes p.agents) budget begun started q.kept.items (states_of M cells) round) where
+      behind_lost : IsLostExchange q.kept.items r.kept.items (states_of M cells) (states_of M last) → HasLostOver (home p.nodes p.agents) budget begun started round r.kept.items (states_of M last)
+      behind_lost l = record { wires = q.kept.items; now = states_of M cells; there = at; lost = l }
+
+      byte_over : (from_node to_node place : ℕ) (sent taken : Option ℕ) (passings : List Passing) → EachAre (IsDrainedOf (home q.nodes q.agents) (states_of M cells)) q.kept.items passings → IsByteBetween q.nodes passings from_node to_node place sent taken
+          → IsLostExchange q.kept.items r.kept.items (states_of M cells) (states_of M last) → HasOtherByte p.nodes (home p.nodes p.agents) budget begun started r.kept.items (states_of M last) round from_node to_node place sent taken
+      byte_over from_node to_node place sent taken passings drained between l = record {
+        behind = record { wires = q.kept.items; now = states_of M cells; there = at; lost = l };
+        passings = passings;
+        drained = subst (λ (ws : List Wire). EachAre (IsDrainedOf (home p.nodes p.agents) (states_of M cells)) ws passings) (sym l.none)
+            (as_there (λ node. EachAre (IsDrainedOf node (states_of M cells)) q.kept.items passings) p q cells o drained);
+        other = subst (λ (n : ℕ). IsByteBetween n passings from_node to_node place sent taken) o.nodes between;
+      }
+
+      pub exchange_over : (e : NodeFault) → IsExchangeFault M round q cells r.kept.items last e → IsFaultOver M p.nodes (home p.nodes p.agents) workers budget begun started r.kept.items last e
+      exchange_over Failed f = (round, behind_lost f)
+      exchange_over (Differs (Message from to at_place sent taken)) f = absurd f.0.fault
+      exchange_over (Differs (Bytes behind from_node to_node place sent taken)) f =
+          subst (λ (n : ℕ). HasOtherByte p.nodes (home p.nodes p.agents) budget begun started r.kept.items (states_of M last) n from_node to_node place sent taken) (sym f.0.fault.0)
+          (byte_over from_node to_node place sent taken f.0.passings f.0.drained f.0.fault.1 f.1)
+      exchange_over NoMemory f = inl (record { count = round; wires = q.kept.items; now = states_of M cells; there = at; part = f })
 
     module _ (budget count : ℕ) (begun : List Wire) (started : List CellState) (p q : NodePlan W) (now : List (Cell X F)) (o : IsPlanOver M p q now)
         (played : ArePlayedSo (home p.nodes p.agents) budget AreBusy count begun started q.kept.items (states_of M now)) where
@@ -333,15 +355,22 @@ module _ {X : Type 0} {F : X → Type 0} (M : DynBox X Global F → View) where
       abbrev pub busy_over : ArePlayedOver node budget begun started q.kept.items (states_of M now)
       busy_over = record { rounds = played.rounds; are = played.are }
 
-      -- a fault that an exchange finds behind these rounds
-      pub fault_over : (e : NodeFault) → IsExchangeFault M count q now e → IsFaultOver p.nodes node budget begun started e
-      fault_over Failed f = tt
-      fault_over (Differs (Message from to at sent taken)) f = f.fault
-      fault_over (Differs (Bytes behind from_node to_node place sent taken)) f =
-          byte_over budget count begun started p q now behind from_node to_node place sent taken o (inl (busy_over, played.counted)) f
-      fault_over NoMemory f = tt
-
       module _ (n : ℕ) (is : n ≡ total (states_of M now)) (less : n < budget) where
+        -- a round, or the exchange before it, that came to a fault
+        pub fault_over : (most workers : ℕ) → most ≤ workers → (r : NodePlan W) (next : List (Cell X F)) (e : NodeFault) → IsRoundFault M most count q now r.kept.items next e → IsFaultOver M p.nodes node workers budget begun started r.kept.items next e
+        fault_over most workers few r next Failed f = exchange_over workers budget count begun started p q r now next o (inl (busy_over, played.counted)) Failed f
+        fault_over most workers few r next (Differs d) f = exchange_over workers budget count begun started p q r now next o (inl (busy_over, played.counted)) (Differs d) f
+        fault_over most workers few r next NoMemory (inl f) = exchange_over workers budget count begun started p q r now next o (inl (busy_over, played.counted)) NoMemory f
+        fault_over most workers few r next NoMemory (inr h) = inr (record {
+          wires = q.kept.items;
+          now = states_of M now;
+          played = busy_over;
+          less = omega (arith, is, less);
+          ready = h.ready;
+          exchange = as_there (λ place. IsExchange place q.kept.items r.kept.items (states_of M now) h.ready) p q now o h.exchange;
+          partly = fewer most workers few h.partly;
+        })
+
         -- one round more
         module _ (r : NodePlan W) (next : List (Cell X F)) (taken : ℕ) (made : HasRoundOver M q now r next taken) (awake : all_ended (states_of M now) ≡ false) where
           round_in : IsNodeRound node q.kept.items r.kept.items (states_of M now) (states_of M next)

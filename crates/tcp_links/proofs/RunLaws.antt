@@ -44,12 +44,13 @@ use Rattle.tcp_links.specs.declared.fault.NodeFault.TheVariants.{Failed, Differs
 use Rattle.tcp_links.specs.declared.plan.NodePlan.{NodePlan}
 use Rattle.tcp_links.specs.Plans.{IsPlan, IsNewPlan}
 use Rattle.tcp_links.specs.Faults.{IsKeptDifference}
+use Rattle.tcp_links.specs.Left.{IsTakenOut}
 use Rattle.tcp_links.specs.Linked.{AreLinkedOver}
 use Rattle.tcp_links.specs.declared.plan.InnerEnds.{InnerEnds}
 use Rattle.tcp_links.specs.Woven.{AreLinksIdle, AreWoven}
 use Rattle.tcp_links.specs.Over.{IsPlanOver, HasExchanged, IsExchangeFault, ArePlayedOutOver, HasBrokenOver, ArePlayedTo}
-use Rattle.tcp_links.specs.Ends.{AreThere, IsDifference, IsFaultOver, HasHeldOver, HasDifference, DiffersOver}
-use Rattle.tcp_links.proofs.OverLaws.{map_at, woven_still, ready_unseen, byte_over}
+use Rattle.tcp_links.specs.Ends.{AreThere, IsFaultOver, HasHeldOver, HasComeTo, IsLeftBy}
+use Rattle.tcp_links.proofs.OverLaws.{map_at, woven_still, ready_unseen, exchange_over}
 
 -- what stands at a place of a list that is so throughout
 all_at : {A : Type 0} (P : A → Type 0) (xs : List A) (i : ℕ) (x : A) → All P xs → slice_get xs i ≡ Some x → P x
@@ -253,15 +254,20 @@ module _ {X : Type 0} {F : X → Type 0} (M : DynBox X Global F → View) where
       held = h.held;
     }
 
-    pub differs_as : (budget : ℕ) (made : List View) (p q : NodePlan W) (last : List CellState) (e : NodeFault) → q.agents ≡ p.agents → q.nodes ≡ p.nodes → q.kept.items ≡ p.kept.items → DiffersOver budget made q last e → DiffersOver budget made p last e
-    differs_as budget made p q last Failed agents nodes kept h = tt
-    differs_as budget made p q last (Differs d) agents nodes kept h = record {
+    come_as : (workers budget : ℕ) (p q : NodePlan W) (left : List Wire) (made last : List (Cell X F)) (e : NodeFault) → q.agents ≡ p.agents → q.nodes ≡ p.nodes → q.kept.items ≡ p.kept.items → HasComeTo M workers budget q made left last e → HasComeTo M workers budget p made left last e
+    come_as workers budget p q left made last e agents nodes kept h = record {
       started = h.started;
       starts = h.starts;
-      right = subst (λ (n : ℕ). IsDifference n (home p.nodes p.agents) budget p.kept.items h.started last d) nodes
-          (subst (λ (ws : List Wire). IsDifference q.nodes (home p.nodes p.agents) budget ws h.started last d) kept (node_as (λ node. IsDifference q.nodes node budget q.kept.items h.started last d) p q agents nodes h.right));
+      fault = subst (λ (n : ℕ). IsFaultOver M n (home p.nodes p.agents) workers budget p.kept.items h.started left last e) nodes
+          (subst (λ (ws : List Wire). IsFaultOver M q.nodes (home p.nodes p.agents) workers budget ws h.started left last e) kept
+          (node_as (λ node. IsFaultOver M q.nodes node workers budget q.kept.items h.started left last e) p q agents nodes h.fault));
     }
-    differs_as budget made p q last NoMemory agents nodes kept h = tt
+
+    pub left_as : (workers budget : ℕ) (p q : NodePlan W) (left : List Wire) (made last : List (Cell X F)) (e : NodeFault) → q.agents ≡ p.agents → q.nodes ≡ p.nodes → q.kept.items ≡ p.kept.items → IsLeftBy M workers budget q made left last e → IsLeftBy M workers budget p made left last e
+    left_as workers budget p q left made last Failed agents nodes kept h = come_as workers budget p q left made last Failed agents nodes kept h
+    left_as workers budget p q left made last (Differs d) agents nodes kept h = come_as workers budget p q left made last (Differs d) agents nodes kept h
+    left_as workers budget p q left made last NoMemory agents nodes kept (inl n) = inl (record { none = n.none ∙ kept; cells = n.cells })
+    left_as workers budget p q left made last NoMemory agents nodes kept (inr h) = inr (come_as workers budget p q left made last NoMemory agents nodes kept h)
 
     -- and their links, on which nothing has passed, have held
     pub held_start : (p : NodePlan W) (cells : List (Cell X F)) → IsPlan p → AreLinkedOver M p cells → HaveHeld p.kept.items
@@ -297,13 +303,12 @@ module _ {X : Type 0} {F : X → Type 0} (M : DynBox X Global F → View) where
     pub new_over : (p q r s : NodePlan W) (now ready : List (Cell X F)) → IsPlanOver M p q now → IsPlanOver M q r ready → IsNewPlan r.agents r.nodes s → IsNewPlan p.agents p.nodes s
     new_over p q r s now ready o x n = record { plan = n.plan; agents_are = n.agents_are ∙ x.agents ∙ o.agents; nodes_are = n.nodes_are ∙ x.nodes ∙ o.nodes; no_link = n.no_link }
 
-    -- a fault that playing came to
-    pub differs_played : (budget : ℕ) (made : List View) (started last : List CellState) (p : NodePlan W) (e : NodeFault) → AreStarted made started → IsFaultOver p.nodes (home p.nodes p.agents) budget p.kept.items started e
-        → DiffersOver budget made p last e
-    differs_played budget made started last p Failed starts f = tt
-    differs_played budget made started last p (Differs (Message from to at sent taken)) starts f = absurd f
-    differs_played budget made started last p (Differs (Bytes round from_node to_node place sent taken)) starts f = record { started = started; starts = starts; right = f }
-    differs_played budget made started last p NoMemory starts f = tt
+    -- a fault that came once all agents had started
+    pub left_come : (workers budget : ℕ) (p : NodePlan W) (left : List Wire) (made last : List (Cell X F)) (started : List CellState) (e : NodeFault) → AreStarted (views_of M made) started
+        → IsFaultOver M p.nodes (home p.nodes p.agents) workers budget p.kept.items started left last e → IsLeftBy M workers budget p made left last e
+    left_come workers budget p left made last started Failed starts f = record { started = started; starts = starts; fault = f }
+    left_come workers budget p left made last started (Differs d) starts f = record { started = started; starts = starts; fault = f }
+    left_come workers budget p left made last started NoMemory starts f = inr (record { started = started; starts = starts; fault = f })
 
     -- what came of playing cells that have started
     module _ (budget rounds : ℕ) (made : List View) (started : List CellState) (p q : NodePlan W) (now : List (Cell X F)) (end : Option RunEnd) (starts : AreStarted made started) (o : IsPlanOver M p q now)
@@ -315,12 +320,8 @@ module _ {X : Type 0} {F : X → Type 0} (M : DynBox X Global F → View) where
       played_there = there_to node budget p.kept.items started q.kept.items now rounds end played
 
       -- a fault that the last exchange came to
-      pub differs_last : (last : List CellState) (e : NodeFault) → IsExchangeFault M rounds q now e → DiffersOver budget made p last e
-      differs_last last Failed f = tt
-      differs_last last (Differs (Message from to at sent taken)) f = absurd f.fault
-      differs_last last (Differs (Bytes behind from_node to_node place sent taken)) f =
-          record { started = started; starts = starts; right = byte_over M budget rounds p.kept.items started p q now behind from_node to_node place sent taken o played_there f }
-      differs_last last NoMemory f = tt
+      pub fault_last : (workers : ℕ) (r : NodePlan W) (last : List (Cell X F)) (e : NodeFault) → IsExchangeFault M rounds q now r.kept.items last e → IsFaultOver M p.nodes node workers budget p.kept.items started r.kept.items last e
+      fault_last workers r last e f = exchange_over M workers budget rounds p.kept.items started p q r now last o played_there e f
 
       module _ (r : NodePlan W) (ready settled : List (Cell X F)) (x : HasExchanged M q now r ready) (s : HaveSettled M (home r.nodes (length ready)) (length ready) ready settled) where
         abbrev last : List CellState
@@ -330,13 +331,10 @@ module _ {X : Type 0} {F : X → Type 0} (M : DynBox X Global F → View) where
         last_end = end_made p q r now ready settled o x s
 
         -- a difference between what was sent and what was taken
-        pub differs_kept : (d : Difference) → IsKeptDifference r.kept.items d → HasDifference budget made p last d
-        differs_kept (Bytes round from_node to_node place sent taken) differs = absurd differs
-        differs_kept (Message from to at sent taken) differs = record {
-          started = started;
-          starts = starts;
-          right = record { count = rounds; wires = q.kept.items; now = states_of M now; there = played_there; passed = r.kept.items; end = last_end; differs = differs };
-        }
+        pub differs_kept : (workers : ℕ) (d : Difference) (left : List Wire) → IsKeptDifference r.kept.items d → IsTakenOut d r.kept.items left → IsFaultOver M p.nodes node workers budget p.kept.items started left settled (Differs d)
+        differs_kept workers (Bytes round from_node to_node place sent taken) left differs out = absurd differs
+        differs_kept workers (Message from to at sent taken) left differs out =
+            record { count = rounds; wires = q.kept.items; now = states_of M now; there = played_there; passed = r.kept.items; end = last_end; differs = differs; renewed = out.1 }
 
         module _ (held : HaveHeld r.kept.items) where
           pub no_break : end ≡ None → ⊥

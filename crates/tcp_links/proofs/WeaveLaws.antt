@@ -68,10 +68,10 @@ set_here (x ∷ xs) zero y lt = refl
 set_here (x ∷ xs) (suc k) y lt = set_here xs k y (omega (arith, lt))
 
 -- what stands at a place of a written list, by whether it is that place
-at_other : {A : Type 0} (xs : List A) (k : ℕ) (y : A) (j : ℕ) (b : A) → k < length xs → j ≢ k → slice_get (set xs k y) j ≡ Some b → slice_get xs j ≡ Some b
+pub at_other : {A : Type 0} (xs : List A) (k : ℕ) (y : A) (j : ℕ) (b : A) → k < length xs → j ≢ k → slice_get (set xs k y) j ≡ Some b → slice_get xs j ≡ Some b
 at_other xs k y j b lt ne e = elim (set_back xs k y j b lt e) [ inl here ↦ absurd (ne here.0) | inr out ↦ out.1 ]
 
-at_place : {A : Type 0} (xs : List A) (k : ℕ) (y b : A) → k < length xs → slice_get (set xs k y) k ≡ Some b → b ≡ y
+pub at_place : {A : Type 0} (xs : List A) (k : ℕ) (y b : A) → k < length xs → slice_get (set xs k y) k ≡ Some b → b ≡ y
 at_place xs k y b lt e = elim (set_back xs k y k b lt e) [ inl here ↦ here.1 | inr out ↦ absurd (out.0 refl) ]
 
 -- a link with other letters drained leads from where it led

@@ -1,13 +1,24 @@
 -- How a run in nodes ended.
-use Rattle.std.specs.Prelude.{◌≡◌, ℕ, ◌+◌, ◌⊎◌, List, length, Option}
+use Rattle.std.specs.Prelude.{◌≡◌, ℕ, ◌+◌, ◌<◌, ◌⊎◌, List, length, Option}
+use Rattle.std.specs.declared.dyn_box.DynBox.{DynBox}
+use Rattle.std.specs.declared.alloc.Global.{Global}
 use Rattle.protocol_steps.specs.declared.message.Message.{Message as Sent}
 use Rattle.protocol_steps.specs.View.{View}
 use Rattle.worker_laws.specs.Cells.{CellState, EachAre}
-use Rattle.worker_laws.specs.CellRounds.{AreStarted}
+use Rattle.worker_laws.specs.CellRounds.{AreStarted, total}
 use Rattle.worker_laws.specs.OneNode.{home}
 use Rattle.worker_laws.specs.Wires.{Wire, HaveHeld}
+use Rattle.worker_laws.specs.Exchanges.{IsExchange}
 use Rattle.worker_laws.specs.NodeRounds.{IsNodeEnd, ArePlayedOver}
 use Rattle.worker_laws.specs.NodeStamps.{AreBrokenOver}
+use Rattle.worker_laws.specs.StampCounts.{IsMoved}
+use Rattle.agent_cells.specs.declared.cell.Cell.{Cell}
+use Rattle.agent_cells.specs.declared.fault.VisitFault.TheVariants.{NoMemory as no_visit_memory}
+use Rattle.agent_workers.specs.Joined.{states_of}
+use Rattle.agent_workers.specs.Turns.{sprint_limit}
+use Rattle.agent_workers.specs.Run.{views_of}
+use Rattle.agent_workers.specs.Broken.{ArePartlyPlayed, HaveStartedPartly}
+use Rattle.link_records.specs.Left.{IsRenewed}
 use Rattle.link_records.specs.Differences.{Differs as DifferKept}
 use Rattle.tcp_links.specs.declared.fault.Difference.{Difference}
 use Rattle.tcp_links.specs.declared.fault.Difference.TheVariants.{Message, Bytes}
@@ -16,6 +27,7 @@ use Rattle.tcp_links.specs.declared.fault.NodeFault.TheVariants.{Failed, Differs
 use Rattle.tcp_links.specs.declared.plan.NodePlan.{NodePlan}
 use Rattle.node_exchange.specs.Faults.{IsByteBetween}
 use Rattle.node_exchange.specs.Passings.{Passing}
+use Rattle.tcp_links.specs.Broken.{IsPartExchange, IsLostExchange}
 use Rattle.tcp_links.specs.Over.{IsDrainedOf}
 
 -- from the start on, cells were played in `count` rounds, the last of which may have been broken
@@ -25,20 +37,25 @@ AreThere node budget begun started wires now count =
     ((p : ArePlayedOver node budget begun started wires now) × (length p.rounds ≡ count))
     ⊎ ((stood : List CellState) × (b : AreBrokenOver node budget begun started wires stood now) × (length b.played.rounds + 1 ≡ count))
 
--- after `round` rounds, an exchange sent from one node to another all that the agents there had
--- sent to the other's and no earlier exchange had drained; what came is not whole frames of
--- letters, and this is the first byte that differs
-pub record HasOtherByte (nodes : ℕ) (node : ℕ → ℕ) (budget : ℕ) (begun : List Wire) (started : List CellState) (round from_node to_node place : ℕ) (sent taken : Option ℕ) : Type 0 where
+-- after `round` rounds, an exchange was broken off before any link had passed anything
+pub record HasLostOver (node : ℕ → ℕ) (budget : ℕ) (begun : List Wire) (started : List CellState) (round : ℕ) (left : List Wire) (last : List CellState) : Type 0 where
   pub wires : List Wire
   pub now : List CellState
   pub there : AreThere node budget begun started wires now round
+  pub lost : IsLostExchange wires left now last
+
+-- this exchange sent from one node to another all that the agents there had sent to the other's and
+-- no earlier exchange had drained; what came is not whole frames of letters, and this is the first
+-- byte that differs
+pub record HasOtherByte (nodes : ℕ) (node : ℕ → ℕ) (budget : ℕ) (begun : List Wire) (started : List CellState) (left : List Wire) (last : List CellState) (round from_node to_node place : ℕ) (sent taken : Option ℕ) : Type 0 where
+  pub behind : HasLostOver node budget begun started round left last
   pub passings : List Passing
-  pub drained : EachAre (IsDrainedOf node now) wires passings
+  pub drained : EachAre (IsDrainedOf node behind.now) left passings
   pub other : IsByteBetween nodes passings from_node to_node place sent taken
 
 -- after the rounds, one exchange more and a last settling, these are the first two envelopes that
--- differ, on the lowest link that differs
-pub record HasOtherMessage (node : ℕ → ℕ) (budget : ℕ) (begun : List Wire) (started last : List CellState) (from to at : ℕ) (sent taken : Option (ℕ × Sent)) : Type 0 where
+-- differ, on the lowest link that differs; this link has become a new one
+pub record HasOtherMessage (node : ℕ → ℕ) (budget : ℕ) (begun : List Wire) (started : List CellState) (left : List Wire) (last : List CellState) (from to at : ℕ) (sent taken : Option (ℕ × Sent)) : Type 0 where
   pub count : ℕ
   pub wires : List Wire
   pub now : List CellState
@@ -46,18 +63,38 @@ pub record HasOtherMessage (node : ℕ → ℕ) (budget : ℕ) (begun : List Wir
   pub passed : List Wire
   pub end : IsNodeEnd node wires passed now last
   pub differs : DifferKept passed from to at sent taken
+  pub renewed : IsRenewed passed from to left
 
 -- a difference is one between two envelopes or one between two bytes
-abbrev pub IsDifference : ℕ → (ℕ → ℕ) → ℕ → List Wire → List CellState → List CellState → Difference → Type 0
-IsDifference nodes node budget begun started last (Message from to at sent taken) = HasOtherMessage node budget begun started last from to at sent taken
-IsDifference nodes node budget begun started last (Bytes round from_node to_node place sent taken) = HasOtherByte nodes node budget begun started round from_node to_node place sent taken
+abbrev pub IsDifference : ℕ → (ℕ → ℕ) → ℕ → List Wire → List CellState → List Wire → List CellState → Difference → Type 0
+IsDifference nodes node budget begun started left last (Message from to at sent taken) = HasOtherMessage node budget begun started left last from to at sent taken
+IsDifference nodes node budget begun started left last (Bytes round from_node to_node place sent taken) = HasOtherByte nodes node budget begun started left last round from_node to_node place sent taken
 
--- a difference found during play is one of bytes; other faults say nothing
-abbrev pub IsFaultOver : ℕ → (ℕ → ℕ) → ℕ → List Wire → List CellState → NodeFault → Type 0
-IsFaultOver nodes node budget begun started Failed = Unit {0}
-IsFaultOver nodes node budget begun started (Differs (Message from to at sent taken)) = ⊥
-IsFaultOver nodes node budget begun started (Differs (Bytes round from_node to_node place sent taken)) = HasOtherByte nodes node budget begun started round from_node to_node place sent taken
-IsFaultOver nodes node budget begun started NoMemory = Unit {0}
+-- after some rounds, an exchange was broken off
+pub record HasPartExchange (node : ℕ → ℕ) (budget : ℕ) (begun : List Wire) (started : List CellState) (left : List Wire) (last : List CellState) : Type 0 where
+  pub count : ℕ
+  pub wires : List Wire
+  pub now : List CellState
+  pub there : AreThere node budget begun started wires now count
+  pub part : IsPartExchange wires left now last
+
+module _ {X : Type 0} {F : X → Type 0} where
+  -- after some rounds under the budget and one exchange more, a round by at most `workers` workers
+  -- was broken off because memory ran out
+  pub record HavePlayedPartly (meaning : DynBox X Global F → View) (node : ℕ → ℕ) (workers budget : ℕ) (begun : List Wire) (started : List CellState) (left : List Wire) (last : List (Cell X F)) : Type 0 where
+    pub wires : List Wire
+    pub now : List CellState
+    pub played : ArePlayedOver node budget begun started wires now
+    pub less : total now < budget
+    pub ready : List CellState
+    pub exchange : IsExchange node wires left now ready
+    pub partly : ArePartlyPlayed meaning no_visit_memory IsMoved sprint_limit workers ready last
+
+  -- how far cells that had started had come when they met this fault, with the links left so
+  abbrev pub IsFaultOver : (DynBox X Global F → View) → ℕ → (ℕ → ℕ) → ℕ → ℕ → List Wire → List CellState → List Wire → List (Cell X F) → NodeFault → Type 0
+  IsFaultOver meaning nodes node workers budget begun started left last Failed = (round : ℕ) × HasLostOver node budget begun started round left (states_of meaning last)
+  IsFaultOver meaning nodes node workers budget begun started left last (Differs d) = IsDifference nodes node budget begun started left (states_of meaning last) d
+  IsFaultOver meaning nodes node workers budget begun started left last NoMemory = HasPartExchange node budget begun started left (states_of meaning last) ⊎ HavePlayedPartly meaning node workers budget begun started left last
 
 module _ {W : Type 0} where
   -- agents that were made in this way have started, their cells were played in rounds over the
@@ -73,14 +110,21 @@ module _ {W : Type 0} where
     pub end : IsNodeEnd (home p.nodes p.agents) wires passed now last
     pub held : HaveHeld passed
 
-  -- agents that were made in this way have started, and their run has met this difference
-  pub record HasDifference (budget : ℕ) (made : List View) (p : NodePlan W) (last : List CellState) (d : Difference) : Type 0 where
+module _ {X : Type 0} {F : X → Type 0} {W : Type 0} where
+  -- the agents of these cells have started, and their run over the links of the plan has come to
+  -- this fault
+  pub record HasComeTo (meaning : DynBox X Global F → View) (workers budget : ℕ) (p : NodePlan W) (made : List (Cell X F)) (left : List Wire) (last : List (Cell X F)) (e : NodeFault) : Type 0 where
     pub started : List CellState
-    pub starts : AreStarted made started
-    pub right : IsDifference p.nodes (home p.nodes p.agents) budget p.kept.items started last d
+    pub starts : AreStarted (views_of meaning made) started
+    pub fault : IsFaultOver meaning p.nodes (home p.nodes p.agents) workers budget p.kept.items started left last e
 
-  -- a fault of a difference says what differs; other faults say nothing
-  abbrev pub DiffersOver : ℕ → List View → NodePlan W → List CellState → NodeFault → Type 0
-  DiffersOver budget made p last Failed = Unit {0}
-  DiffersOver budget made p last (Differs d) = HasDifference budget made p last d
-  DiffersOver budget made p last NoMemory = Unit {0}
+  -- memory ran out before all agents had started, and no link has passed anything
+  pub record HasNotStarted (meaning : DynBox X Global F → View) (p : NodePlan W) (made : List (Cell X F)) (left : List Wire) (last : List (Cell X F)) : Type 0 where
+    pub none : left ≡ p.kept.items
+    pub cells : (last ≡ made) ⊎ HaveStartedPartly meaning made last
+
+  -- what a fault leaves of cells and of the links of a plan
+  abbrev pub IsLeftBy : (DynBox X Global F → View) → ℕ → ℕ → NodePlan W → List (Cell X F) → List Wire → List (Cell X F) → NodeFault → Type 0
+  IsLeftBy meaning workers budget p made left last Failed = HasComeTo meaning workers budget p made left last Failed
+  IsLeftBy meaning workers budget p made left last (Differs d) = HasComeTo meaning workers budget p made left last (Differs d)
+  IsLeftBy meaning workers budget p made left last NoMemory = HasNotStarted meaning p made left last ⊎ HasComeTo meaning workers budget p made left last NoMemory

@@ -1,10 +1,11 @@
 -- What a link has passed, by its inner ends.
-use Rattle.std.specs.Prelude.{◌≡◌, ℕ, List, Some, ◌++◌, slice_get}
+use Rattle.std.specs.Prelude.{◌≡◌, ℕ, ◌⊎◌, List, Some, ◌++◌, slice_get}
 use Rattle.std.specs.List.{flat_map}
 use mathlib.Core.List.{IsPrefix}
 use Rattle.fifo_links.specs.Link.{sent_on, taken_from}
 use Rattle.worker_laws.specs.Cells.{EachAre}
 use Rattle.worker_laws.specs.Wires.{Wire}
+use Rattle.link_records.specs.Keeping.{keeps}
 use Rattle.node_exchange.specs.Passings.{Passing}
 use Rattle.tcp_links.specs.declared.plan.InnerEnds.{InnerEnds}
 
@@ -20,6 +21,7 @@ pub record IsNoted (w : Wire) (ends : InnerEnds) : Type 0 where
   pub drained : IsPrefix (flat_map (λ p. p.drained) w.passages) (taken_from ends.drain)
   pub arrived : IsPrefix (flat_map (λ p. p.arrived) w.passages) (sent_on ends.feed)
 
+-- each link has noted a first part of what went through its inner ends
 abbrev pub AreNoted : List Wire → List InnerEnds → Type 0
 AreNoted ws es = EachAre IsNoted ws es
 
@@ -28,5 +30,16 @@ pub record IsToNote (w : Wire) (ends : InnerEnds) (p : Passing) : Type 0 where
   pub drained : flat_map (λ q. q.drained) w.passages ++ p.drained ≡ taken_from ends.drain
   pub arrived : flat_map (λ q. q.arrived) w.passages ≡ sent_on ends.feed
 
+-- this is so of each link
 abbrev pub AreToNote : List Wire → List InnerEnds → List Passing → Type 0
-AreToNote ws es ps = (k : ℕ) (w : Wire) (e : InnerEnds) (p : Passing) → slice_get ws k ≡ Some w → slice_get es k ≡ Some e → slice_get ps k ≡ Some p → IsToNote w e p
+AreToNote ws es ps = (k : ℕ) (w : Wire) (e : InnerEnds) (p : Passing)
+    → slice_get ws k ≡ Some w → slice_get es k ≡ Some e → slice_get ps k ≡ Some p → IsToNote w e p
+
+-- the link has noted what this exchange drained of it and what arrived, or nothing yet
+abbrev pub MayKeep : Wire → Passing → Wire → Type 0
+MayKeep before p after = (after ≡ before) ⊎ (after ≡ keeps before p.drained p.arrived)
+
+-- this is so of each link
+abbrev pub MayKeepAll : List Wire → List Passing → List Wire → Type 0
+MayKeepAll before ps after = (k : ℕ) (v : Wire) (p : Passing) (w : Wire)
+    → slice_get before k ≡ Some v → slice_get ps k ≡ Some p → slice_get after k ≡ Some w → MayKeep v p w

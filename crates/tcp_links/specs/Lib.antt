@@ -6,6 +6,7 @@ pub mod Drains
 pub mod Feeds
 pub mod Woven
 pub mod Linked
+pub mod Broken
 pub mod Over
 pub mod Ends
 pub mod Shared

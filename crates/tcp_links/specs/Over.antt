@@ -1,5 +1,5 @@
 -- Playing cells over a plan of nodes, exchange by exchange and round by round.
-use Rattle.std.specs.Prelude.{◌≡◌, ℕ, ◌+◌, ◌*◌, ◌<◌, ◌≤◌, true, false, List, ◌++◌, Option, Some, None, length, slice_get}
+use Rattle.std.specs.Prelude.{◌≡◌, ℕ, ◌+◌, ◌*◌, ◌<◌, ◌≤◌, ◌⊎◌, true, false, List, ◌++◌, Option, Some, None, length, slice_get}
 use Rattle.std.specs.List.{flat_map}
 use Rattle.std.specs.declared.dyn_box.DynBox.{DynBox}
 use Rattle.std.specs.declared.alloc.Global.{Global}
@@ -17,10 +17,10 @@ use Rattle.worker_laws.specs.NodeStamps.{AreBrokenOver}
 use Rattle.worker_laws.specs.StampCounts.{IsMoved}
 use Rattle.agent_cells.specs.declared.cell.Cell.{Cell}
 use Rattle.agent_cells.specs.State.{fault_in}
-use Rattle.agent_cells.specs.declared.fault.VisitFault.TheVariants.{StampEnd}
+use Rattle.agent_cells.specs.declared.fault.VisitFault.TheVariants.{StampEnd, NoMemory as no_visit_memory}
 use Rattle.agent_workers.specs.Joined.{states_of, EachIs}
 use Rattle.agent_workers.specs.Turns.{sprint_limit, SomeFailed}
-use Rattle.agent_workers.specs.Broken.{StandsOrFails}
+use Rattle.agent_workers.specs.Broken.{StandsOrFails, ArePartlyPlayed}
 use Rattle.agent_workers.specs.Run.{AreDue, EndIdle, AtStill}
 use Rattle.dcop_base.specs.Limits.{amount_limit}
 use Rattle.tcp_links.specs.declared.plan.NodePlan.{NodePlan}
@@ -31,6 +31,7 @@ use Rattle.tcp_links.specs.Plans.{IsPlan}
 use Rattle.tcp_links.specs.Woven.{AreWoven, IsPassingOf, AreLinksIdle, SentWasDrained, FedWasTaken, HaveCaughtUp}
 use Rattle.node_exchange.specs.Passings.{Passing}
 use Rattle.tcp_links.specs.Faults.{IsByteFaultAfter}
+use Rattle.tcp_links.specs.Broken.{IsPartExchange, IsLostExchange}
 
 -- what an exchange passes on a link is all that its sender has sent and no earlier exchange has
 -- drained
@@ -67,12 +68,25 @@ module _ {X : Type 0} {F : X → Type 0} {W : Type 0} where
     pub drained : EachAre (IsDrainedOf (home p.nodes p.agents) (states_of meaning cells)) p.kept.items passings
     pub fault : IsByteFaultAfter p.nodes round passings (Differs d)
 
-  -- a difference that an exchange finds is one of the bytes that it passed; other faults say
-  -- nothing
-  abbrev pub IsExchangeFault : (DynBox X Global F → View) → ℕ → NodePlan W → List (Cell X F) → NodeFault → Type 0
-  IsExchangeFault meaning round p cells Failed = Unit {0}
-  IsExchangeFault meaning round p cells (Differs d) = HasPassedOther meaning round p cells d
-  IsExchangeFault meaning round p cells NoMemory = Unit {0}
+  -- what an exchange that came to this fault has made: links have passed something only if memory
+  -- ran out; a difference is one of the bytes that were passed
+  abbrev pub IsExchangeFault : (DynBox X Global F → View) → ℕ → NodePlan W → List (Cell X F) → List Wire → List (Cell X F) → NodeFault → Type 0
+  IsExchangeFault meaning round p cells left now Failed = IsLostExchange p.kept.items left (states_of meaning cells) (states_of meaning now)
+  IsExchangeFault meaning round p cells left now (Differs d) = HasPassedOther meaning round p cells d × IsLostExchange p.kept.items left (states_of meaning cells) (states_of meaning now)
+  IsExchangeFault meaning round p cells left now NoMemory = IsPartExchange p.kept.items left (states_of meaning cells) (states_of meaning now)
+
+  -- an exchange over a plan, and then a round by at most `workers` workers that was broken off
+  -- because memory ran out
+  pub record HasPartRound (meaning : DynBox X Global F → View) (workers : ℕ) (before : NodePlan W) (cells : List (Cell X F)) (left : List Wire) (now : List (Cell X F)) : Type 0 where
+    pub ready : List CellState
+    pub exchange : IsExchange (home before.nodes before.agents) before.kept.items left (states_of meaning cells) ready
+    pub partly : ArePartlyPlayed meaning no_visit_memory IsMoved sprint_limit workers ready now
+
+  -- what a round and the exchange before it have made when they came to this fault
+  abbrev pub IsRoundFault : (DynBox X Global F → View) → ℕ → ℕ → NodePlan W → List (Cell X F) → List Wire → List (Cell X F) → NodeFault → Type 0
+  IsRoundFault meaning workers round p cells left now Failed = IsExchangeFault meaning round p cells left now Failed
+  IsRoundFault meaning workers round p cells left now (Differs d) = IsExchangeFault meaning round p cells left now (Differs d)
+  IsRoundFault meaning workers round p cells left now NoMemory = IsExchangeFault meaning round p cells left now NoMemory ⊎ HasPartRound meaning workers p cells left now
 
 -- from the start on, cells were played in `count` rounds of which `Such` holds, under a budget, and
 -- this much has passed between the nodes

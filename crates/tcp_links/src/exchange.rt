@@ -7,7 +7,7 @@ ghost use Rattle.agent_workers.specs.Joined.{EachIs, EachBecomes, AreCellsJoined
 ghost use Rattle.agent_workers.specs.Settled.{StaysQuiet};
 ghost use Rattle.node_exchange.specs.Turned.{AreTurned};
 ghost use Rattle.tcp_links.specs.Kept.{AreNoted};
-ghost use Rattle.tcp_links.specs.Left.{HavePassedMore, KeepsPlan, pairs_lost_by};
+ghost use Rattle.tcp_links.specs.Left.{KeepsPlan, pairs_lost_by};
 ghost use Rattle.tcp_links.specs.Plans.{IsPlan, IsHonest};
 ghost use Rattle.tcp_links.specs.Faults.{HasNodeCause, IsOtherFault};
 ghost use Rattle.tcp_links.specs.Woven.{AreWoven};
@@ -49,13 +49,15 @@ where
     requires ready { AreReadyToExchange (λ b. meaning (b.vtable, b.value)) (home plan.old.nodes plan.old.agents) plan.old cells.old }
     requires sound { EachIs (λ c. IsCell (λ b. meaning (b.vtable, b.value)) c) cells.old }
     ensures quiet { EachBecomes (λ a b. StaysQuiet (λ b. meaning (b.vtable, b.value)) a b) cells.old cells.new }
-    ensures left { KeepsPlan HavePassedMore plan.old plan.new }
+    ensures keeps { KeepsPlan plan.old plan.new }
     ensures noted { AreNoted plan.new.kept.items plan.new.ends.items }
-    ensures wires { AreTurned D.W.told D.W.is_joined (pairs_lost_by result) plan.old.wires.items plan.new.wires.items }
+    ensures wires { AreTurned D.W.told D.W.is_joined (pairs_lost_by result)
+        plan.old.wires.items plan.new.wires.items }
     ensures exchanged { OnOk result (HasExchanged (λ b. meaning (b.vtable, b.value)) plan.old cells.old plan.new cells.new) }
     ensures cause { HasNodeCause (D.faults dialer.old) (D.faults dialer.new) result }
     ensures dialer { D.is_honest dialer.old → D.is_honest dialer.new }
-    ensures differs { IfErr result (IsExchangeFault (λ b. meaning (b.vtable, b.value)) round plan.old cells.old) }
+    ensures left { IfErr result (IsExchangeFault (λ b. meaning (b.vtable, b.value)) round
+        plan.old cells.old plan.new.kept.items cells.new) }
     ensures honest { IsHonest D.W.told D.W.is_joined plan.old
         → OnOk result (IsHonest D.W.told D.W.is_joined plan.new × (HaveHeld plan.old.kept.items → HaveHeld plan.new.kept.items)) × IfErr result IsOtherFault }
 {

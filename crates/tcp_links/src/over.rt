@@ -9,10 +9,10 @@ ghost use Rattle.agent_cells.specs.State.{fault_in};
 ghost use Rattle.agent_workers.specs.Joined.{states_of, EachIs, EachBecomes, HasBegun, IsSameCell, AreCellsJoined};
 ghost use Rattle.node_exchange.specs.Turned.{AreTurned};
 ghost use Rattle.tcp_links.specs.Kept.{AreNoted};
-ghost use Rattle.tcp_links.specs.Left.{HavePassedMore, KeepsPlan, pairs_lost_by};
+ghost use Rattle.tcp_links.specs.Left.{KeepsPlan, pairs_lost_by};
 ghost use Rattle.tcp_links.specs.Plans.{IsHonest};
 ghost use Rattle.tcp_links.specs.Faults.{HasNodeCause, IsOtherFault};
-ghost use Rattle.tcp_links.specs.Over.{IsPlanOver, IsRoundOver, IsExchangeFault, ArePlayedTo};
+ghost use Rattle.tcp_links.specs.Over.{IsPlanOver, IsRoundOver, IsRoundFault, ArePlayedTo};
 ghost use Rattle.tcp_links.specs.Ends.{IsFaultOver};
 ghost use Rattle.tcp_links.specs.Shared.{IfEnded, IsSharedOver, ArePlayedSharedOver};
 
@@ -66,16 +66,18 @@ where
     ensures joined { AreCellsJoined (λ b. meaning (b.vtable, b.value)) plan.old.nodes cells.new }
     ensures begun { EachIs (λ c. HasBegun (λ b. meaning (b.vtable, b.value)) c) cells.new }
     ensures same { EachBecomes (λ a b. IsSameCell a b) cells.old cells.new }
-    ensures left { KeepsPlan HavePassedMore plan.old plan.new }
+    ensures keeps { KeepsPlan plan.old plan.new }
     ensures noted { AreNoted plan.new.kept.items plan.new.ends.items }
-    ensures wires { AreTurned D.W.told D.W.is_joined (pairs_lost_by result) plan.old.wires.items plan.new.wires.items }
+    ensures wires { AreTurned D.W.told D.W.is_joined (pairs_lost_by result)
+        plan.old.wires.items plan.new.wires.items }
     ensures over { OnOk result (IsPlanOver (λ b. meaning (b.vtable, b.value)) plan.old plan.new cells.new) }
     ensures played { IfOk result (λ play. ArePlayedTo (λ b. meaning (b.vtable, b.value)) (home plan.old.nodes plan.old.agents) budget plan.old.kept.items
         (states_of (λ b. meaning (b.vtable, b.value)) cells.old) plan.new.kept.items cells.new play.rounds play.end) }
     ensures parts { IfOk result (λ play. IfEnded play.end (ArePlayedSharedOver (λ b. meaning (b.vtable, b.value)) workers plan.old.nodes cells.old cells.new)) }
     ensures cause { HasNodeCause (D.faults dialer.old) (D.faults dialer.new) result }
     ensures dialer { D.is_honest dialer.old → D.is_honest dialer.new }
-    ensures differs { IfErr result (IsFaultOver plan.old.nodes (home plan.old.nodes plan.old.agents) budget plan.old.kept.items (states_of (λ b. meaning (b.vtable, b.value)) cells.old)) }
+    ensures left { IfErr result (IsFaultOver (λ b. meaning (b.vtable, b.value)) plan.old.nodes (home plan.old.nodes plan.old.agents)
+        workers budget plan.old.kept.items (states_of (λ b. meaning (b.vtable, b.value)) cells.old) plan.new.kept.items cells.new) }
     ensures honest { IsHonest D.W.told D.W.is_joined plan.old → HaveHeld plan.old.kept.items
         → OnOk result (IsHonest D.W.told D.W.is_joined plan.new × HaveHeld plan.new.kept.items) × IfErr result IsOtherFault }
 {
@@ -127,15 +129,17 @@ where
     ensures joined { AreCellsJoined (λ b. meaning (b.vtable, b.value)) plan.old.nodes cells.new }
     ensures begun { EachIs (λ c. HasBegun (λ b. meaning (b.vtable, b.value)) c) cells.new }
     ensures same { EachBecomes (λ a b. IsSameCell a b) cells.old cells.new }
-    ensures left { KeepsPlan HavePassedMore plan.old plan.new }
+    ensures keeps { KeepsPlan plan.old plan.new }
     ensures noted { AreNoted plan.new.kept.items plan.new.ends.items }
-    ensures wires { AreTurned D.W.told D.W.is_joined (pairs_lost_by result) plan.old.wires.items plan.new.wires.items }
+    ensures wires { AreTurned D.W.told D.W.is_joined (pairs_lost_by result)
+        plan.old.wires.items plan.new.wires.items }
     ensures over { OnOk result (IsPlanOver (λ b. meaning (b.vtable, b.value)) plan.old plan.new cells.new) }
     ensures round { IfOk result (IsRoundOver (λ b. meaning (b.vtable, b.value)) plan.old cells.old plan.new cells.new) }
     ensures parts { IfOk result (λ o. IfSome o (λ taken. IsSharedOver (λ b. meaning (b.vtable, b.value)) workers plan.old.nodes cells.old cells.new)) }
     ensures cause { HasNodeCause (D.faults dialer.old) (D.faults dialer.new) result }
     ensures dialer { D.is_honest dialer.old → D.is_honest dialer.new }
-    ensures differs { IfErr result (IsExchangeFault (λ b. meaning (b.vtable, b.value)) round plan.old cells.old) }
+    ensures left { IfErr result (IsRoundFault (λ b. meaning (b.vtable, b.value)) workers round
+        plan.old cells.old plan.new.kept.items cells.new) }
     ensures honest { IsHonest D.W.told D.W.is_joined plan.old
         → OnOk result (IsHonest D.W.told D.W.is_joined plan.new × (HaveHeld plan.old.kept.items → HaveHeld plan.new.kept.items)) × IfErr result IsOtherFault }
 {

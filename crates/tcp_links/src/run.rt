@@ -9,12 +9,12 @@ ghost use Rattle.agent_workers.specs.Joined.{states_of, EachIs, EachBecomes, IsS
 ghost use Rattle.agent_workers.specs.Run.{views_of, AreDulyPlayed, RestsAtStill};
 ghost use Rattle.node_exchange.specs.Turned.{AreTurned};
 ghost use Rattle.tcp_links.specs.Kept.{AreNoted};
-ghost use Rattle.tcp_links.specs.Left.{IsTakenOut, IsLeftBy, pairs_lost_by};
+ghost use Rattle.tcp_links.specs.Left.{IsTakenOut, KeepsPlan, pairs_lost_by};
 ghost use Rattle.tcp_links.specs.Plans.{pair_count, IsPlan, IsHonest, IsNewPlan, IsSamePlan};
 ghost use Rattle.worker_laws.specs.OneNode.{home};
 ghost use Rattle.tcp_links.specs.Woven.{AreLinksIdle};
 ghost use Rattle.tcp_links.specs.Linked.{AreLinkedOver};
-ghost use Rattle.tcp_links.specs.Ends.{HasHeldOver, DiffersOver};
+ghost use Rattle.tcp_links.specs.Ends.{HasHeldOver, IsLeftBy};
 ghost use Rattle.tcp_links.specs.Shared.{HaveRunSharedOver};
 ghost use Rattle.tcp_links.specs.Faults.{HasNodeCause, IsOtherFault, IsKeptDifference};
 
@@ -53,11 +53,14 @@ use wire_pump::{Dialer, Wire};
 ///   honest dialer.
 /// - [`NodeFault::NoMemory`] if memory runs out.
 ///
-/// After a fault the cells and the plan are as the rounds and exchanges left them: the clauses
-/// `same` and `sound` say what is left of the cells, and `left`, `noted` and `wires` of the plan.
-/// Only the link whose [`Difference::Message`] is answered is like a new one, and what a link has
-/// noted really went through its inner ends. Only after [`NodeFault::Failed`] or
-/// [`NodeFault::NoMemory`] may a pair of wires be gone, and no more than one.
+/// After a fault the clause `left` says how far the run had come. The cells and the links of the
+/// plan are as some number of whole rounds and exchanges left them, and then one exchange or round
+/// that may have been broken off. If memory ran out before all agents had started, no link has
+/// passed anything. The clauses `same` and `sound` say what else is left of the cells, and `keeps`,
+/// `noted` and `wires` of the plan. Only the link whose [`Difference::Message`] is answered is like
+/// a new one, and what a link has noted really went through its inner ends. Only after
+/// [`NodeFault::Failed`] or [`NodeFault::NoMemory`] may a pair of wires be gone, and no more than
+/// one.
 pub fn run_nodes<R, D, G>(
     rt: &R,
     alloc: Global,
@@ -86,14 +89,16 @@ where
         (states_of (λ b. meaning (b.vtable, b.value)) cells.new.items) end) }
     ensures parts { OnOk result (HaveRunSharedOver (λ b. meaning (b.vtable, b.value)) workers plan.old.nodes cells.old.items cells.new.items) }
     ensures held { OnOk result (HasHeldOver budget (views_of (λ b. meaning (b.vtable, b.value)) cells.old.items) plan.old (states_of (λ b. meaning (b.vtable, b.value)) cells.new.items)) }
-    ensures differs { IfErr result (DiffersOver budget (views_of (λ b. meaning (b.vtable, b.value)) cells.old.items) plan.old (states_of (λ b. meaning (b.vtable, b.value)) cells.new.items)) }
+    ensures left { IfErr result (IsLeftBy (λ b. meaning (b.vtable, b.value)) workers budget
+        plan.old cells.old.items plan.new.kept.items cells.new.items) }
     ensures cause { HasNodeCause (D.faults dialer.old) (D.faults dialer.new) result }
     ensures same { EachBecomes (λ a b. IsSameCell a b) cells.old.items cells.new.items }
     ensures sound { EachIs (λ c. IsCell (λ b. meaning (b.vtable, b.value)) c) cells.new.items }
     ensures plan { OnOk result (IsNewPlan plan.old.agents plan.old.nodes plan.new) }
-    ensures left { IfErr result (IsLeftBy plan.old plan.new) }
+    ensures keeps { OnErr result (KeepsPlan plan.old plan.new) }
     ensures noted { OnErr result (AreNoted plan.new.kept.items plan.new.ends.items) }
-    ensures wires { AreTurned D.W.told D.W.is_joined (pairs_lost_by result) plan.old.wires.items plan.new.wires.items }
+    ensures wires { AreTurned D.W.told D.W.is_joined (pairs_lost_by result)
+        plan.old.wires.items plan.new.wires.items }
     ensures dialer { D.is_honest dialer.old → D.is_honest dialer.new }
     ensures honest { IsHonest D.W.told D.W.is_joined plan.old → OnOk result (IsHonest D.W.told D.W.is_joined plan.new) × IfErr result IsOtherFault }
 {
@@ -155,14 +160,16 @@ where
         (states_of (λ b. meaning (b.vtable, b.value)) cells.new) end) }
     ensures parts { OnOk result (HaveRunSharedOver (λ b. meaning (b.vtable, b.value)) workers plan.old.nodes cells.old cells.new) }
     ensures held { OnOk result (HasHeldOver budget (views_of (λ b. meaning (b.vtable, b.value)) cells.old) plan.old (states_of (λ b. meaning (b.vtable, b.value)) cells.new)) }
-    ensures differs { IfErr result (DiffersOver budget (views_of (λ b. meaning (b.vtable, b.value)) cells.old) plan.old (states_of (λ b. meaning (b.vtable, b.value)) cells.new)) }
+    ensures left { IfErr result (IsLeftBy (λ b. meaning (b.vtable, b.value)) workers budget
+        plan.old cells.old plan.new.kept.items cells.new) }
     ensures cause { HasNodeCause (D.faults dialer.old) (D.faults dialer.new) result }
     ensures same { EachBecomes (λ a b. IsSameCell a b) cells.old cells.new }
     ensures sound { EachIs (λ c. IsCell (λ b. meaning (b.vtable, b.value)) c) cells.new }
     ensures plan { OnOk result (IsNewPlan plan.old.agents plan.old.nodes plan.new) }
-    ensures left { IfErr result (IsLeftBy plan.old plan.new) }
+    ensures keeps { OnErr result (KeepsPlan plan.old plan.new) }
     ensures noted { OnErr result (AreNoted plan.new.kept.items plan.new.ends.items) }
-    ensures wires { AreTurned D.W.told D.W.is_joined (pairs_lost_by result) plan.old.wires.items plan.new.wires.items }
+    ensures wires { AreTurned D.W.told D.W.is_joined (pairs_lost_by result)
+        plan.old.wires.items plan.new.wires.items }
     ensures dialer { D.is_honest dialer.old → D.is_honest dialer.new }
     ensures honest { IsHonest D.W.told D.W.is_joined plan.old → OnOk result (IsHonest D.W.told D.W.is_joined plan.new) × IfErr result IsOtherFault }
 {

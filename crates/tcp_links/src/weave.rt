@@ -7,8 +7,8 @@ ghost use Rattle.agent_cells.specs.State.{state_of};
 ghost use Rattle.agent_workers.specs.Joined.{EachBecomes};
 ghost use Rattle.agent_workers.specs.Settled.{StaysQuiet};
 ghost use Rattle.node_exchange.specs.Passings.{holding, emptied};
-ghost use Rattle.tcp_links.specs.Kept.{IsNoted, AreNoted, IsToNote, AreToNote};
-ghost use Rattle.tcp_links.specs.Left.{HasPassedMore, HavePassedMore, AreSameEnds};
+ghost use Rattle.tcp_links.specs.Kept.{IsNoted, AreNoted, IsToNote, AreToNote, MayKeep, MayKeepAll};
+ghost use Rattle.tcp_links.specs.Left.{AreSameEnds};
 ghost use Rattle.tcp_links.specs.Woven.{AreLinksIdle, AreLinksOf, CanDrain, CanDrainAll, CanFeed, CanFeedAll, HasDrainedLink, HaveDrained, HasFedLink, HaveFed, AreEmptied, KnowsElse, SentIsDrained, FedIsTaken};
 
 use crate::drain::drain_link;
@@ -103,7 +103,7 @@ pub(crate) fn feed_all(
     requires taken { FedIsTaken (λ b. meaning (b.vtable, b.value)) still.now kept.old ends.old cells.old }
     ensures quiet { EachBecomes (λ a b. StaysQuiet (λ b. meaning (b.vtable, b.value)) a b) cells.old cells.new }
     ensures ends { EachAre AreSameEnds ends.old ends.new }
-    ensures kept { HavePassedMore kept.old kept.new }
+    ensures kept { MayKeepAll kept.old passings.old kept.new }
     ensures noted { AreToNote kept.old ends.old passings.old → AreNoted kept.new ends.new }
     ensures sizes { (length kept.new ≡ length kept.old) × (length ends.new ≡ length ends.old) × (length passings.new ≡ length passings.old) }
     ensures fed { OnOk result (HaveFed (λ b. meaning (b.vtable, b.value)) (length kept.old) cells.new kept.old kept.new ends.old ends.new passings.old) }
@@ -139,7 +139,7 @@ fn feed_at(
         → ends.old.waits ≡ false → lane link.old.sender (state_of (λ b. meaning (b.vtable, b.value)) c).taken ≡ sent_on ends.old.feed }
     ensures quiet { EachBecomes (λ a b. StaysQuiet (λ b. meaning (b.vtable, b.value)) a b) cells.old cells.new }
     ensures ends { AreSameEnds ends.old ends.new }
-    ensures kept { HasPassedMore link.old link.new }
+    ensures kept { MayKeep link.old passing.old link.new }
     ensures noted { IsToNote link.old ends.old passing.old → IsNoted link.new ends.new }
     ensures known { KnowsElse (λ b. meaning (b.vtable, b.value)) link.old.receiver link.old.sender cells.old cells.new }
     ensures fed { OnOk result ((c : _) → slice_get cells.new link.old.receiver ≡ Some c

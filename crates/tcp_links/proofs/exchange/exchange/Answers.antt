@@ -9,9 +9,11 @@ use Rattle.node_exchange.specs.Passings.{SamePassing, AreAcross, NothingCame}
 use Rattle.node_exchange.specs.Faults.{IsByteFault}
 use Rattle.tcp_links.specs.Faults.{IsOtherFault}
 use Rattle.tcp_links.specs.Over.{IsExchangeFault}
-use Rattle.tcp_links.proofs.ExchangeLaws.{twice_written, long_written, no_difference, nothing_came, are_across, can_drain, can_feed, still_taken, fault_on, woven_on, idle_on, caught_up, exchange_on, held_on, has_exchanged, idle_slices, emptied_slices, can_drain_slices, sent_slices, taken_slices, links_slices, links_of, sent_where_still, taken_where_still, drained_slices, can_feed_slices, fed_slices, note_slices, woven_noted, to_note}
-use Rattle.tcp_links.specs.Left.{HavePassedMore, AreSameEnds}
-use Rattle.tcp_links.proofs.LeftLaws.{have_none, all_ends_then, keeps_parts}
+use Rattle.tcp_links.proofs.ExchangeLaws.{twice_written, long_written, no_difference, nothing_came, are_across, can_drain, can_feed, still_taken, fault_on, woven_on, idle_on, caught_up, exchange_on, held_on, all_drained, has_exchanged, idle_slices, emptied_slices, can_drain_slices, sent_slices, taken_slices, links_slices, links_of, sent_where_still, taken_where_still, drained_slices, can_feed_slices, fed_slices, note_slices, woven_noted, to_note}
+use Rattle.tcp_links.specs.Left.{AreSameEnds}
+use Rattle.tcp_links.proofs.LeftLaws.{all_ends_then, keeps_parts}
+use Rattle.tcp_links.proofs.PartLaws.{lost, part_none, part, keep_slices}
+use Rattle.tcp_links.proofs.OverLaws.{err_on}
 use Rattle.node_exchange.proofs.TurnLaws.{turned_none, turned_less, turned_long}
 use Rattle.tcp_links.specs.Left.{pairs_lost_by}
 use Rattle.node_exchange.specs.Turned.{AreTurned}
@@ -41,14 +43,15 @@ pass_all-requires-clause-across g c κs within =
     let here = c.as_mut_slice-3.ensures.value ∙ written _ c.args.plan.now.passings.items c.drain_all.new.passings c.as_mut_slice-2.result.now c.args.plan.now.passings.ok.0 long c.as_mut_slice-2.ensures.value in
     subst (AreAcross c.args.plan.now.nodes) (sym here) (are_across (λ b. (goal.Machine-dyn g (b.vtable, b.value)).meaning b.value) c.args.plan.now.nodes c.args.plan.now.agents c.args.plan.now.kept.items c.args.plan.now.ends.items c.drain_all.new.ends c.args.cells.now c.drain_all.new.cells c.drain_all.new.passings c.requires.woven c.drain_all.ensures.quiet drained c.requires.plan.nodes.0)
 
-pub returns-in-Err-clause-differs : goal.returns-in-Err-clause-differs
-returns-in-Err-clause-differs g c =
+pub returns-in-Err-clause-left : goal.returns-in-Err-clause-left
+returns-in-Err-clause-left g c =
     let idle = idle_slices (home c.args.plan.now.nodes c.args.plan.now.agents) c.args.plan.now.kept.items c.as_slice-2.result.now c.args.plan.now.passings.items c.as_mut_slice-2.result.now c.as_slice-2.ensures.value c.as_mut_slice-2.ensures.value c.requires.ready.idle in
     let drained = drained_slices (λ b. (goal.Machine-dyn g (b.vtable, b.value)).meaning b.value) (home c.args.plan.now.nodes c.args.plan.now.agents) c.args.cells.now c.args.plan.now.kept.items c.as_slice-2.result.now c.args.plan.now.ends.items c.as_mut_slice.result.now c.drain_all.new.ends c.drain_all.new.passings c.as_slice-2.ensures.value c.as_mut_slice.ensures.value (c.in_ok-drain_all.ensures.drained (home c.args.plan.now.nodes c.args.plan.now.agents) idle) in
     let long = drained.counted ∙ sym c.requires.ready.idle.size ∙ ap length (sym c.as_mut_slice-2.ensures.value) in
     let here = c.as_mut_slice-3.ensures.value ∙ written _ c.args.plan.now.passings.items c.drain_all.new.passings c.as_mut_slice-2.result.now c.args.plan.now.passings.ok.0 long c.as_mut_slice-2.ensures.value in
-    subst (IsExchangeFault (λ b. (goal.Machine-dyn g (b.vtable, b.value)).meaning b.value) c.args.round c.args.plan.now c.args.cells.now) (sym c.node_fault.ensures)
-    (fault_on (λ b. (goal.Machine-dyn g (b.vtable, b.value)).meaning b.value) c.args.plan.now.nodes c.args.plan.now.agents c.args.plan.now.kept.items c.args.plan.now.ends.items c.drain_all.new.ends c.args.cells.now c.drain_all.new.cells c.drain_all.new.passings c.requires.woven c.drain_all.ensures.quiet drained c.args.round c.args.plan.now c.in-Err.fault refl refl refl (subst (λ ps. IsByteFault c.args.plan.now.nodes ps c.in-Err.fault) here c.in-Err.ensures.differs))
+    let quiet = c.drain_all.ensures.quiet in
+    subst (IsExchangeFault (λ b. (goal.Machine-dyn g (b.vtable, b.value)).meaning b.value) c.args.round c.args.plan.now c.args.cells.now _ c.drain_all.new.cells) (sym c.node_fault.ensures)
+    (fault_on (λ b. (goal.Machine-dyn g (b.vtable, b.value)).meaning b.value) c.args.plan.now.nodes c.args.plan.now.agents c.args.plan.now.kept.items c.args.plan.now.ends.items c.drain_all.new.ends c.args.cells.now c.drain_all.new.cells c.drain_all.new.passings c.requires.woven quiet drained c.args.round c.args.plan.now _ c.drain_all.new.cells c.in-Err.fault refl refl refl (lost (λ b. (goal.Machine-dyn g (b.vtable, b.value)).meaning b.value) c.args.cells.now c.drain_all.new.cells quiet c.args.plan.now.kept.items) (part_none (λ b. (goal.Machine-dyn g (b.vtable, b.value)).meaning b.value) c.args.cells.now c.drain_all.new.cells quiet c.args.plan.now.kept.items) (subst (λ ps. IsByteFault c.args.plan.now.nodes ps c.in-Err.fault) here c.in-Err.ensures.differs))
 
 pub returns-in-Err-clause-honest : goal.returns-in-Err-clause-honest
 returns-in-Err-clause-honest g c =
@@ -154,48 +157,42 @@ returns-clause-honest g c =
     let came = c.in_default.ensures.honest honest none in
     ((came.0.0, λ held. subst HaveHeld (sym kept) (held_on (λ b. (goal.Machine-dyn g (b.vtable, b.value)).meaning b.value) c.args.plan.now.nodes c.args.plan.now.agents c.args.plan.now.kept.items c.args.plan.now.ends.items c.drain_all.new.ends c.args.cells.now c.drain_all.new.cells c.drain_all.new.passings c.requires.woven c.drain_all.ensures.quiet drained c.pass_all.new.passings c.feed_all.new.kept c.feed_all.new.ends c.feed_all.new.cells same c.feed_all.ensures.quiet fed came.0.1 held)), tt)
 
-pub returns-in_err-drain_all-clause-left : goal.returns-in_err-drain_all-clause-left
-returns-in_err-drain_all-clause-left g c =
+pub returns-in_err-drain_all-clause-keeps : goal.returns-in_err-drain_all-clause-keeps
+returns-in_err-drain_all-clause-keeps g c =
     let same = subst (λ es. EachAre AreSameEnds es c.drain_all.new.ends) c.as_mut_slice.ensures.value c.drain_all.ensures.ends in
-    keeps_parts c.args.plan.now _ c.drain_all.new.ends c.args.plan.now.kept.items refl refl (written _ c.args.plan.now.ends.items c.drain_all.new.ends c.as_mut_slice.result.now c.args.plan.now.ends.ok.0 (sym (each_long AreSameEnds c.as_mut_slice.result.now c.drain_all.new.ends c.drain_all.ensures.ends)) c.as_mut_slice.ensures.value) refl same (have_none c.args.plan.now.kept.items)
+    keeps_parts c.args.plan.now _ c.drain_all.new.ends refl refl (written _ c.args.plan.now.ends.items c.drain_all.new.ends c.as_mut_slice.result.now c.args.plan.now.ends.ok.0 (sym (each_long AreSameEnds c.as_mut_slice.result.now c.drain_all.new.ends c.drain_all.ensures.ends)) c.as_mut_slice.ensures.value) same
 
-pub returns-in-Err-clause-left : goal.returns-in-Err-clause-left
-returns-in-Err-clause-left g c =
+pub returns-in-Err-clause-keeps : goal.returns-in-Err-clause-keeps
+returns-in-Err-clause-keeps g c =
     let same = subst (λ es. EachAre AreSameEnds es c.drain_all.new.ends) c.as_mut_slice.ensures.value c.drain_all.ensures.ends in
-    keeps_parts c.args.plan.now _ c.drain_all.new.ends c.args.plan.now.kept.items refl refl (written _ c.args.plan.now.ends.items c.drain_all.new.ends c.as_mut_slice.result.now c.args.plan.now.ends.ok.0 (sym (each_long AreSameEnds c.as_mut_slice.result.now c.drain_all.new.ends c.drain_all.ensures.ends)) c.as_mut_slice.ensures.value) refl same (have_none c.args.plan.now.kept.items)
+    keeps_parts c.args.plan.now _ c.drain_all.new.ends refl refl (written _ c.args.plan.now.ends.items c.drain_all.new.ends c.as_mut_slice.result.now c.args.plan.now.ends.ok.0 (sym (each_long AreSameEnds c.as_mut_slice.result.now c.drain_all.new.ends c.drain_all.ensures.ends)) c.as_mut_slice.ensures.value) same
 
-pub returns-in_err-feed_all-clause-left : goal.returns-in_err-feed_all-clause-left
-returns-in_err-feed_all-clause-left g c =
+pub returns-in_err-feed_all-clause-keeps : goal.returns-in_err-feed_all-clause-keeps
+returns-in_err-feed_all-clause-keeps g c =
     let same : EachAre AreSameEnds c.args.plan.now.ends.items c.drain_all.new.ends = subst (λ es. EachAre AreSameEnds es c.drain_all.new.ends) c.as_mut_slice.ensures.value c.drain_all.ensures.ends in
     let size = sym (each_long AreSameEnds c.as_mut_slice.result.now c.drain_all.new.ends c.drain_all.ensures.ends) in
     let ends = written _ c.args.plan.now.ends.items c.drain_all.new.ends c.as_mut_slice.result.now c.args.plan.now.ends.ok.0 (sym (each_long AreSameEnds c.as_mut_slice.result.now c.drain_all.new.ends c.drain_all.ensures.ends)) c.as_mut_slice.ensures.value in
     let more : EachAre AreSameEnds c.drain_all.new.ends c.feed_all.new.ends = subst (λ es. EachAre AreSameEnds es c.feed_all.new.ends) (c.as_mut_slice-5.ensures.value ∙ ends) c.feed_all.ensures.ends in
     let twice = twice_written _ c.args.plan.now.ends.items c.drain_all.new.ends c.as_mut_slice.result.now c.feed_all.new.ends c.as_mut_slice-5.result.now c.args.plan.now.ends.ok.0 size c.as_mut_slice.ensures.value c.feed_all.ensures.sizes.1 c.as_mut_slice-5.ensures.value in
-    let kept = written _ c.args.plan.now.kept.items c.feed_all.new.kept c.as_mut_slice-4.result.now c.args.plan.now.kept.ok.0 c.feed_all.ensures.sizes.0 c.as_mut_slice-4.ensures.value in
-    keeps_parts c.args.plan.now _ c.feed_all.new.ends c.feed_all.new.kept refl refl twice kept (all_ends_then c.args.plan.now.ends.items c.drain_all.new.ends c.feed_all.new.ends same more)
-    (subst (λ ws. HavePassedMore ws c.feed_all.new.kept) c.as_mut_slice-4.ensures.value c.feed_all.ensures.kept)
+    keeps_parts c.args.plan.now _ c.feed_all.new.ends refl refl twice (all_ends_then c.args.plan.now.ends.items c.drain_all.new.ends c.feed_all.new.ends same more)
 
-pub returns-in_err-note_all-clause-left : goal.returns-in_err-note_all-clause-left
-returns-in_err-note_all-clause-left g c =
+pub returns-in_err-note_all-clause-keeps : goal.returns-in_err-note_all-clause-keeps
+returns-in_err-note_all-clause-keeps g c =
     let same : EachAre AreSameEnds c.args.plan.now.ends.items c.drain_all.new.ends = subst (λ es. EachAre AreSameEnds es c.drain_all.new.ends) c.as_mut_slice.ensures.value c.drain_all.ensures.ends in
     let size = sym (each_long AreSameEnds c.as_mut_slice.result.now c.drain_all.new.ends c.drain_all.ensures.ends) in
     let ends = written _ c.args.plan.now.ends.items c.drain_all.new.ends c.as_mut_slice.result.now c.args.plan.now.ends.ok.0 (sym (each_long AreSameEnds c.as_mut_slice.result.now c.drain_all.new.ends c.drain_all.ensures.ends)) c.as_mut_slice.ensures.value in
     let more : EachAre AreSameEnds c.drain_all.new.ends c.feed_all.new.ends = subst (λ es. EachAre AreSameEnds es c.feed_all.new.ends) (c.as_mut_slice-5.ensures.value ∙ ends) c.feed_all.ensures.ends in
     let twice = twice_written _ c.args.plan.now.ends.items c.drain_all.new.ends c.as_mut_slice.result.now c.feed_all.new.ends c.as_mut_slice-5.result.now c.args.plan.now.ends.ok.0 size c.as_mut_slice.ensures.value c.feed_all.ensures.sizes.1 c.as_mut_slice-5.ensures.value in
-    let kept = written _ c.args.plan.now.kept.items c.feed_all.new.kept c.as_mut_slice-4.result.now c.args.plan.now.kept.ok.0 c.feed_all.ensures.sizes.0 c.as_mut_slice-4.ensures.value in
-    keeps_parts c.args.plan.now _ c.feed_all.new.ends c.feed_all.new.kept refl refl twice kept (all_ends_then c.args.plan.now.ends.items c.drain_all.new.ends c.feed_all.new.ends same more)
-    (subst (λ ws. HavePassedMore ws c.feed_all.new.kept) c.as_mut_slice-4.ensures.value c.feed_all.ensures.kept)
+    keeps_parts c.args.plan.now _ c.feed_all.new.ends refl refl twice (all_ends_then c.args.plan.now.ends.items c.drain_all.new.ends c.feed_all.new.ends same more)
 
-pub returns-clause-left : goal.returns-clause-left
-returns-clause-left g c =
+pub returns-clause-keeps : goal.returns-clause-keeps
+returns-clause-keeps g c =
     let same : EachAre AreSameEnds c.args.plan.now.ends.items c.drain_all.new.ends = subst (λ es. EachAre AreSameEnds es c.drain_all.new.ends) c.as_mut_slice.ensures.value c.drain_all.ensures.ends in
     let size = sym (each_long AreSameEnds c.as_mut_slice.result.now c.drain_all.new.ends c.drain_all.ensures.ends) in
     let ends = written _ c.args.plan.now.ends.items c.drain_all.new.ends c.as_mut_slice.result.now c.args.plan.now.ends.ok.0 (sym (each_long AreSameEnds c.as_mut_slice.result.now c.drain_all.new.ends c.drain_all.ensures.ends)) c.as_mut_slice.ensures.value in
     let more : EachAre AreSameEnds c.drain_all.new.ends c.feed_all.new.ends = subst (λ es. EachAre AreSameEnds es c.feed_all.new.ends) (c.as_mut_slice-5.ensures.value ∙ ends) c.feed_all.ensures.ends in
     let twice = twice_written _ c.args.plan.now.ends.items c.drain_all.new.ends c.as_mut_slice.result.now c.feed_all.new.ends c.as_mut_slice-5.result.now c.args.plan.now.ends.ok.0 size c.as_mut_slice.ensures.value c.feed_all.ensures.sizes.1 c.as_mut_slice-5.ensures.value in
-    let kept = written _ c.args.plan.now.kept.items c.feed_all.new.kept c.as_mut_slice-4.result.now c.args.plan.now.kept.ok.0 c.feed_all.ensures.sizes.0 c.as_mut_slice-4.ensures.value in
-    keeps_parts c.args.plan.now _ c.feed_all.new.ends c.feed_all.new.kept refl refl twice kept (all_ends_then c.args.plan.now.ends.items c.drain_all.new.ends c.feed_all.new.ends same more)
-    (subst (λ ws. HavePassedMore ws c.feed_all.new.kept) c.as_mut_slice-4.ensures.value c.feed_all.ensures.kept)
+    keeps_parts c.args.plan.now _ c.feed_all.new.ends refl refl twice (all_ends_then c.args.plan.now.ends.items c.drain_all.new.ends c.feed_all.new.ends same more)
 
 pub returns-in_err-drain_all-clause-wires : goal.returns-in_err-drain_all-clause-wires
 returns-in_err-drain_all-clause-wires g c = turned_none g.D.W.Wire.told g.D.W.Wire.is_joined _ c.args.plan.now.wires.items
@@ -274,3 +271,38 @@ returns-clause-noted g c =
     let told = note_slices c.args.plan.now.kept.items c.as_mut_slice-4.result.now c.drain_all.new.ends c.as_mut_slice-5.result.now c.pass_all.new.passings c.as_mut_slice-6.result.now c.as_mut_slice-4.ensures.value (c.as_mut_slice-5.ensures.value ∙ ends) passed
     (to_note (λ b. (goal.Machine-dyn g (b.vtable, b.value)).meaning b.value) c.args.plan.now.nodes c.args.plan.now.agents c.args.plan.now.kept.items c.args.plan.now.ends.items c.drain_all.new.ends c.args.cells.now c.drain_all.new.cells c.drain_all.new.passings c.requires.woven c.drain_all.ensures.quiet drained c.pass_all.new.passings same) in
     noted_as _ c.feed_all.new.kept _ c.feed_all.new.ends kept twice (c.feed_all.ensures.noted told)
+
+pub returns-in_err-feed_all-clause-left : goal.returns-in_err-feed_all-clause-left
+returns-in_err-feed_all-clause-left g c =
+    let idle = idle_slices (home c.args.plan.now.nodes c.args.plan.now.agents) c.args.plan.now.kept.items c.as_slice-2.result.now c.args.plan.now.passings.items c.as_mut_slice-2.result.now c.as_slice-2.ensures.value c.as_mut_slice-2.ensures.value c.requires.ready.idle in
+    let drained = drained_slices (λ b. (goal.Machine-dyn g (b.vtable, b.value)).meaning b.value) (home c.args.plan.now.nodes c.args.plan.now.agents) c.args.cells.now c.args.plan.now.kept.items c.as_slice-2.result.now c.args.plan.now.ends.items c.as_mut_slice.result.now c.drain_all.new.ends c.drain_all.new.passings c.as_slice-2.ensures.value c.as_mut_slice.ensures.value (c.in_ok-drain_all.ensures.drained (home c.args.plan.now.nodes c.args.plan.now.agents) idle) in
+    let long = drained.counted ∙ sym c.requires.ready.idle.size ∙ ap length (sym c.as_mut_slice-2.ensures.value) in
+    let here = c.as_mut_slice-3.ensures.value ∙ written _ c.args.plan.now.passings.items c.drain_all.new.passings c.as_mut_slice-2.result.now c.args.plan.now.passings.ok.0 long c.as_mut_slice-2.ensures.value in
+    let one = long_written _ c.args.plan.now.passings.items c.drain_all.new.passings c.as_mut_slice-2.result.now c.args.plan.now.passings.ok.0 long c.as_mut_slice-2.ensures.value in
+    let longer = sym (each_long SamePassing c.as_mut_slice-3.result.now c.pass_all.new.passings c.pass_all.ensures.same) in
+    let passed = c.as_mut_slice-6.ensures.value ∙ written _ _ c.pass_all.new.passings c.as_mut_slice-3.result.now one longer c.as_mut_slice-3.ensures.value in
+    let same : EachAre SamePassing c.drain_all.new.passings c.pass_all.new.passings = subst (λ ps. EachAre SamePassing ps c.pass_all.new.passings) here c.pass_all.ensures.same in
+    let kept = written _ c.args.plan.now.kept.items c.feed_all.new.kept c.as_mut_slice-4.result.now c.args.plan.now.kept.ok.0 c.feed_all.ensures.sizes.0 c.as_mut_slice-4.ensures.value in
+    err_on c.from_residual-in_err-feed_all.result _ (IsExchangeFault (λ b. (goal.Machine-dyn g (b.vtable, b.value)).meaning b.value) c.args.round c.args.plan.now c.args.cells.now _ c.feed_all.new.cells) c.from_residual-in_err-feed_all.ensures.1
+    (part (λ b. (goal.Machine-dyn g (b.vtable, b.value)).meaning b.value) c.args.cells.now c.feed_all.new.cells (each_stays_then (λ b. (goal.Machine-dyn g (b.vtable, b.value)).meaning b.value) c.args.cells.now c.drain_all.new.cells c.feed_all.new.cells c.drain_all.ensures.quiet c.feed_all.ensures.quiet) (home c.args.plan.now.nodes c.args.plan.now.agents) c.args.plan.now.kept.items c.feed_all.new.kept _ c.drain_all.new.passings c.pass_all.new.passings kept (c.feed_all.ensures.sizes.0 ∙ ap length c.as_mut_slice-4.ensures.value)
+    (all_drained (λ b. (goal.Machine-dyn g (b.vtable, b.value)).meaning b.value) c.args.plan.now.nodes c.args.plan.now.agents c.args.plan.now.kept.items c.args.plan.now.ends.items c.drain_all.new.ends c.args.cells.now c.drain_all.new.cells c.drain_all.new.passings c.requires.woven c.drain_all.ensures.quiet drained) same
+    (keep_slices c.args.plan.now.kept.items c.as_mut_slice-4.result.now c.feed_all.new.kept c.pass_all.new.passings c.as_mut_slice-6.result.now c.as_mut_slice-4.ensures.value passed c.feed_all.ensures.kept))
+
+pub returns-in_err-note_all-clause-left : goal.returns-in_err-note_all-clause-left
+returns-in_err-note_all-clause-left g c =
+    let idle = idle_slices (home c.args.plan.now.nodes c.args.plan.now.agents) c.args.plan.now.kept.items c.as_slice-2.result.now c.args.plan.now.passings.items c.as_mut_slice-2.result.now c.as_slice-2.ensures.value c.as_mut_slice-2.ensures.value c.requires.ready.idle in
+    let drained = drained_slices (λ b. (goal.Machine-dyn g (b.vtable, b.value)).meaning b.value) (home c.args.plan.now.nodes c.args.plan.now.agents) c.args.cells.now c.args.plan.now.kept.items c.as_slice-2.result.now c.args.plan.now.ends.items c.as_mut_slice.result.now c.drain_all.new.ends c.drain_all.new.passings c.as_slice-2.ensures.value c.as_mut_slice.ensures.value (c.in_ok-drain_all.ensures.drained (home c.args.plan.now.nodes c.args.plan.now.agents) idle) in
+    let long = drained.counted ∙ sym c.requires.ready.idle.size ∙ ap length (sym c.as_mut_slice-2.ensures.value) in
+    let here = c.as_mut_slice-3.ensures.value ∙ written _ c.args.plan.now.passings.items c.drain_all.new.passings c.as_mut_slice-2.result.now c.args.plan.now.passings.ok.0 long c.as_mut_slice-2.ensures.value in
+    let one = long_written _ c.args.plan.now.passings.items c.drain_all.new.passings c.as_mut_slice-2.result.now c.args.plan.now.passings.ok.0 long c.as_mut_slice-2.ensures.value in
+    let longer = sym (each_long SamePassing c.as_mut_slice-3.result.now c.pass_all.new.passings c.pass_all.ensures.same) in
+    let passed = c.as_mut_slice-6.ensures.value ∙ written _ _ c.pass_all.new.passings c.as_mut_slice-3.result.now one longer c.as_mut_slice-3.ensures.value in
+    let same : EachAre SamePassing c.drain_all.new.passings c.pass_all.new.passings = subst (λ ps. EachAre SamePassing ps c.pass_all.new.passings) here c.pass_all.ensures.same in
+    let kept = written _ c.args.plan.now.kept.items c.feed_all.new.kept c.as_mut_slice-4.result.now c.args.plan.now.kept.ok.0 c.feed_all.ensures.sizes.0 c.as_mut_slice-4.ensures.value in
+    err_on c.from_residual-in_err-note_all.result _ (IsExchangeFault (λ b. (goal.Machine-dyn g (b.vtable, b.value)).meaning b.value) c.args.round c.args.plan.now c.args.cells.now _ c.feed_all.new.cells) c.from_residual-in_err-note_all.ensures.1
+    (part (λ b. (goal.Machine-dyn g (b.vtable, b.value)).meaning b.value) c.args.cells.now c.feed_all.new.cells (each_stays_then (λ b. (goal.Machine-dyn g (b.vtable, b.value)).meaning b.value) c.args.cells.now c.drain_all.new.cells c.feed_all.new.cells c.drain_all.ensures.quiet c.feed_all.ensures.quiet) (home c.args.plan.now.nodes c.args.plan.now.agents) c.args.plan.now.kept.items c.feed_all.new.kept _ c.drain_all.new.passings c.pass_all.new.passings kept (c.feed_all.ensures.sizes.0 ∙ ap length c.as_mut_slice-4.ensures.value)
+    (all_drained (λ b. (goal.Machine-dyn g (b.vtable, b.value)).meaning b.value) c.args.plan.now.nodes c.args.plan.now.agents c.args.plan.now.kept.items c.args.plan.now.ends.items c.drain_all.new.ends c.args.cells.now c.drain_all.new.cells c.drain_all.new.passings c.requires.woven c.drain_all.ensures.quiet drained) same
+    (keep_slices c.args.plan.now.kept.items c.as_mut_slice-4.result.now c.feed_all.new.kept c.pass_all.new.passings c.as_mut_slice-6.result.now c.as_mut_slice-4.ensures.value passed c.feed_all.ensures.kept))
+
+pub returns-in_err-drain_all-clause-left : goal.returns-in_err-drain_all-clause-left
+returns-in_err-drain_all-clause-left g c = err_on c.from_residual.result _ (IsExchangeFault (λ b. (goal.Machine-dyn g (b.vtable, b.value)).meaning b.value) c.args.round c.args.plan.now c.args.cells.now _ c.drain_all.new.cells) c.from_residual.ensures.1 (part_none (λ b. (goal.Machine-dyn g (b.vtable, b.value)).meaning b.value) c.args.cells.now c.drain_all.new.cells c.drain_all.ensures.quiet c.args.plan.now.kept.items)

@@ -19,7 +19,7 @@ loop-round-init g c = record {
   shared = shared_start (λ b. (goal.Machine-dyn g (b.vtable, b.value)).meaning b.value) c.args.workers c.args.plan.now.nodes c.args.cells.now;
   size = refl;
   same = same_all (λ b. (goal.Machine-dyn g (b.vtable, b.value)).meaning b.value) c.args.cells.now;
-  left = keeps_none c.args.plan.now;
+  keeps = keeps_none c.args.plan.now;
   noted = woven_noted (λ b. (goal.Machine-dyn g (b.vtable, b.value)).meaning b.value) c.args.plan.now.nodes c.args.plan.now.agents c.args.plan.now.kept.items c.args.plan.now.ends.items c.args.cells.now c.requires.over.woven;
   wires = turned_none g.D.W.Wire.told g.D.W.Wire.is_joined 0 c.args.plan.now.wires.items;
   joined = c.requires.joined;
@@ -69,8 +69,9 @@ returns-in_err-taken-clause-cause g c = cause_on (Option ℕ) _ _ _ c.from_resid
 pub returns-in_err-taken-clause-dialer : goal.returns-in_err-taken-clause-dialer
 returns-in_err-taken-clause-dialer g c = λ d. c.round_over.ensures.dialer (c.loop-round.invariant.dialer d)
 
-pub returns-in_err-taken-clause-differs : goal.returns-in_err-taken-clause-differs
-returns-in_err-taken-clause-differs g c = err_on c.from_residual.result _ (IsFaultOver c.args.plan.now.nodes (home c.args.plan.now.nodes c.args.plan.now.agents) c.args.budget c.args.plan.now.kept.items (states_of (λ b. (goal.Machine-dyn g (b.vtable, b.value)).meaning b.value) c.args.cells.now)) c.from_residual.ensures.1 (fault_over (λ b. (goal.Machine-dyn g (b.vtable, b.value)).meaning b.value) c.args.budget c.loop-round.round c.args.plan.now.kept.items (states_of (λ b. (goal.Machine-dyn g (b.vtable, b.value)).meaning b.value) c.args.cells.now) c.args.plan.now c.loop-round.plan c.loop-round.cells c.loop-round.invariant.over c.loop-round.invariant.played _ c.in_err-taken.ensures.differs)
+pub returns-in_err-taken-clause-left : goal.returns-in_err-taken-clause-left
+returns-in_err-taken-clause-left g c = err_on c.from_residual.result _ (IsFaultOver (λ b. (goal.Machine-dyn g (b.vtable, b.value)).meaning b.value) c.args.plan.now.nodes (home c.args.plan.now.nodes c.args.plan.now.agents) c.args.workers c.args.budget c.args.plan.now.kept.items (states_of (λ b. (goal.Machine-dyn g (b.vtable, b.value)).meaning b.value) c.args.cells.now) c.round_over.new.plan.kept.items c.round_over.new.cells) c.from_residual.ensures.1
+    (fault_over (λ b. (goal.Machine-dyn g (b.vtable, b.value)).meaning b.value) c.args.budget c.loop-round.round c.args.plan.now.kept.items (states_of (λ b. (goal.Machine-dyn g (b.vtable, b.value)).meaning b.value) c.args.cells.now) c.args.plan.now c.loop-round.plan c.loop-round.cells c.loop-round.invariant.over c.loop-round.invariant.played c.loop-round.deliveries c.loop-round.invariant.deliveries (c.loop-round.invariant.within c.loop-round-test.true) c.useful_workers-most.result c.args.workers c.useful_workers-most.ensures.most c.round_over.new.plan c.round_over.new.cells _ c.in_err-taken.ensures.left)
 
 pub returns-in_err-taken-clause-honest : goal.returns-in_err-taken-clause-honest
 returns-in_err-taken-clause-honest g c = λ h held. (nothing_on c.from_residual.result _ _ c.from_residual.ensures.1, err_on c.from_residual.result _ IsOtherFault c.from_residual.ensures.1 (c.in_err-taken.ensures.honest (c.loop-round.invariant.honest h held)).1)
@@ -167,7 +168,7 @@ loop-round-preserved g c = let i = c.loop-round.invariant in let was = i.deliver
   shared = shared_more (λ b. (goal.Machine-dyn g (b.vtable, b.value)).meaning b.value) c.args.workers c.args.plan.now.nodes c.args.cells.now c.loop-round.cells c.round_over.new.cells i.shared i.awake (shared_at (λ b. (goal.Machine-dyn g (b.vtable, b.value)).meaning b.value) c.args.workers c.useful_workers-most.result c.args.plan.now.nodes c.loop-round.plan.nodes c.loop-round.cells c.round_over.new.cells _ c.in-Some.taken c.useful_workers-most.ensures.most c.loop-round.invariant.over.nodes c.in-Some.is c.in_ok-taken.ensures.parts) (omega (arith, more, some));
   size = c.round_over.ensures.size ∙ c.loop-round.invariant.size;
   same = same_then (λ b. (goal.Machine-dyn g (b.vtable, b.value)).meaning b.value) c.args.cells.now c.loop-round.cells c.round_over.new.cells c.loop-round.invariant.same c.round_over.ensures.same;
-  left = keeps_then c.args.plan.now c.loop-round.plan c.round_over.new.plan c.loop-round.invariant.left c.round_over.ensures.left;
+  keeps = keeps_then c.args.plan.now c.loop-round.plan c.round_over.new.plan c.loop-round.invariant.keeps c.round_over.ensures.keeps;
   noted = c.round_over.ensures.noted;
   wires = turned_then g.D.W.Wire.told g.D.W.Wire.is_joined 0 c.args.plan.now.wires.items c.loop-round.plan.wires.items c.round_over.new.plan.wires.items c.loop-round.invariant.wires c.in_ok-taken.ensures.wires;
   joined = joined_back (λ b. (goal.Machine-dyn g (b.vtable, b.value)).meaning b.value) c.args.plan.now c.loop-round.plan c.round_over.new.cells c.loop-round.invariant.over.nodes c.round_over.ensures.joined;
@@ -236,44 +237,44 @@ returns-clause-parts g c = if_ended (ArePlayedSharedOver (λ b. (goal.Machine-dy
 pub returns-then-all_ended-clause-same : goal.returns-then-all_ended-clause-same
 returns-then-all_ended-clause-same g c = same_all (λ b. (goal.Machine-dyn g (b.vtable, b.value)).meaning b.value) c.args.cells.now
 
-pub returns-then-all_ended-clause-left : goal.returns-then-all_ended-clause-left
-returns-then-all_ended-clause-left g c = keeps_none c.args.plan.now
+pub returns-then-all_ended-clause-keeps : goal.returns-then-all_ended-clause-keeps
+returns-then-all_ended-clause-keeps g c = keeps_none c.args.plan.now
 
 pub returns-in_err-taken-clause-same : goal.returns-in_err-taken-clause-same
 returns-in_err-taken-clause-same g c = same_then (λ b. (goal.Machine-dyn g (b.vtable, b.value)).meaning b.value) c.args.cells.now c.loop-round.cells c.round_over.new.cells c.loop-round.invariant.same c.round_over.ensures.same
 
-pub returns-in_err-taken-clause-left : goal.returns-in_err-taken-clause-left
-returns-in_err-taken-clause-left g c = keeps_then c.args.plan.now c.loop-round.plan c.round_over.new.plan c.loop-round.invariant.left c.round_over.ensures.left
+pub returns-in_err-taken-clause-keeps : goal.returns-in_err-taken-clause-keeps
+returns-in_err-taken-clause-keeps g c = keeps_then c.args.plan.now c.loop-round.plan c.round_over.new.plan c.loop-round.invariant.keeps c.round_over.ensures.keeps
 
 pub returns-in_default-clause-same : goal.returns-in_default-clause-same
 returns-in_default-clause-same g c = same_then (λ b. (goal.Machine-dyn g (b.vtable, b.value)).meaning b.value) c.args.cells.now c.loop-round.cells c.round_over.new.cells c.loop-round.invariant.same c.round_over.ensures.same
 
-pub returns-in_default-clause-left : goal.returns-in_default-clause-left
-returns-in_default-clause-left g c = keeps_then c.args.plan.now c.loop-round.plan c.round_over.new.plan c.loop-round.invariant.left c.round_over.ensures.left
+pub returns-in_default-clause-keeps : goal.returns-in_default-clause-keeps
+returns-in_default-clause-keeps g c = keeps_then c.args.plan.now c.loop-round.plan c.round_over.new.plan c.loop-round.invariant.keeps c.round_over.ensures.keeps
 
 pub returns-then-all_ended-2-clause-same : goal.returns-then-all_ended-2-clause-same
 returns-then-all_ended-2-clause-same g c = same_then (λ b. (goal.Machine-dyn g (b.vtable, b.value)).meaning b.value) c.args.cells.now c.loop-round.cells c.round_over.new.cells c.loop-round.invariant.same c.round_over.ensures.same
 
-pub returns-then-all_ended-2-clause-left : goal.returns-then-all_ended-2-clause-left
-returns-then-all_ended-2-clause-left g c = keeps_then c.args.plan.now c.loop-round.plan c.round_over.new.plan c.loop-round.invariant.left c.round_over.ensures.left
+pub returns-then-all_ended-2-clause-keeps : goal.returns-then-all_ended-2-clause-keeps
+returns-then-all_ended-2-clause-keeps g c = keeps_then c.args.plan.now c.loop-round.plan c.round_over.new.plan c.loop-round.invariant.keeps c.round_over.ensures.keeps
 
 pub returns-then-deliveries-budget-clause-same : goal.returns-then-deliveries-budget-clause-same
 returns-then-deliveries-budget-clause-same g c = same_then (λ b. (goal.Machine-dyn g (b.vtable, b.value)).meaning b.value) c.args.cells.now c.loop-round.cells c.round_over.new.cells c.loop-round.invariant.same c.round_over.ensures.same
 
-pub returns-then-deliveries-budget-clause-left : goal.returns-then-deliveries-budget-clause-left
-returns-then-deliveries-budget-clause-left g c = keeps_then c.args.plan.now c.loop-round.plan c.round_over.new.plan c.loop-round.invariant.left c.round_over.ensures.left
+pub returns-then-deliveries-budget-clause-keeps : goal.returns-then-deliveries-budget-clause-keeps
+returns-then-deliveries-budget-clause-keeps g c = keeps_then c.args.plan.now c.loop-round.plan c.round_over.new.plan c.loop-round.invariant.keeps c.round_over.ensures.keeps
 
 pub returns-then-taken-eq0-clause-same : goal.returns-then-taken-eq0-clause-same
 returns-then-taken-eq0-clause-same g c = same_then (λ b. (goal.Machine-dyn g (b.vtable, b.value)).meaning b.value) c.args.cells.now c.loop-round.cells c.round_over.new.cells c.loop-round.invariant.same c.round_over.ensures.same
 
-pub returns-then-taken-eq0-clause-left : goal.returns-then-taken-eq0-clause-left
-returns-then-taken-eq0-clause-left g c = keeps_then c.args.plan.now c.loop-round.plan c.round_over.new.plan c.loop-round.invariant.left c.round_over.ensures.left
+pub returns-then-taken-eq0-clause-keeps : goal.returns-then-taken-eq0-clause-keeps
+returns-then-taken-eq0-clause-keeps g c = keeps_then c.args.plan.now c.loop-round.plan c.round_over.new.plan c.loop-round.invariant.keeps c.round_over.ensures.keeps
 
 pub returns-clause-same : goal.returns-clause-same
 returns-clause-same g c = c.loop-round.invariant.same
 
-pub returns-clause-left : goal.returns-clause-left
-returns-clause-left g c = c.loop-round.invariant.left
+pub returns-clause-keeps : goal.returns-clause-keeps
+returns-clause-keeps g c = c.loop-round.invariant.keeps
 
 pub returns-then-all_ended-clause-wires : goal.returns-then-all_ended-clause-wires
 returns-then-all_ended-clause-wires g c = turned_none g.D.W.Wire.told g.D.W.Wire.is_joined 0 c.args.plan.now.wires.items

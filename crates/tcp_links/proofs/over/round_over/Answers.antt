@@ -1,4 +1,4 @@
-use Rattle.std.proofs.Common.{◌∙◌, refl, subst, arith}
+use Rattle.std.proofs.Common.{◌∙◌, refl, subst, inr, arith}
 use Rattle.worker_laws.specs.StampCounts.{IsMoved}
 use Rattle.agent_workers.specs.Joined.{states_of}
 use Rattle.agent_workers.specs.Turns.{sprint_limit, SomeFailed}
@@ -7,8 +7,8 @@ use Rattle.agent_workers.proofs.JoinLaws.{quiet_same}
 use Rattle.agent_workers.proofs.RoundLaws.{sound_from, begun_still}
 use Rattle.agent_workers.proofs.RunLaws.{fine_still}
 use Rattle.tcp_links.specs.Faults.{IsOtherFault}
-use Rattle.tcp_links.specs.Over.{IsExchangeFault}
-use Rattle.tcp_links.proofs.OverLaws.{err_on, nothing_on, cause_on, joined_quiet, joined_over, joined_back, fine_quiet, over_played, over_forgot, round_made, broken_made}
+use Rattle.tcp_links.specs.Over.{IsRoundFault}
+use Rattle.tcp_links.proofs.OverLaws.{err_on, nothing_on, cause_on, joined_quiet, joined_over, joined_back, fine_quiet, over_played, over_forgot, round_made, round_fault, broken_made}
 use Rattle.tcp_links.proofs.SharedLaws.{shared_over}
 use Rattle.tcp_links.proofs.LeftLaws.{keeps_same, keeps_then, same_then}
 use Rattle.node_exchange.proofs.TurnLaws.{turned_less}
@@ -42,8 +42,15 @@ returns-in_err-exchange-clause-begun g c = begun_still (λ b. (goal.Machine-dyn 
 pub returns-in_err-exchange-clause-cause : goal.returns-in_err-exchange-clause-cause
 returns-in_err-exchange-clause-cause g c = cause_on (Unit {0}) _ _ _ c.from_residual.result _ refl c.from_residual.ensures.1 c.in_err-exchange.ensures.cause
 
-pub returns-in_err-exchange-clause-differs : goal.returns-in_err-exchange-clause-differs
-returns-in_err-exchange-clause-differs g c = err_on c.from_residual.result _ (IsExchangeFault (λ b. (goal.Machine-dyn g (b.vtable, b.value)).meaning b.value) c.args.round c.args.plan.now c.args.cells.now) c.from_residual.ensures.1 c.in_err-exchange.ensures.differs
+pub returns-in_err-exchange-clause-left : goal.returns-in_err-exchange-clause-left
+returns-in_err-exchange-clause-left g c = err_on c.from_residual.result _ (IsRoundFault (λ b. (goal.Machine-dyn g (b.vtable, b.value)).meaning b.value) c.args.workers c.args.round c.args.plan.now c.args.cells.now c.exchange.new.plan.kept.items c.exchange.new.cells) c.from_residual.ensures.1 (round_fault (λ b. (goal.Machine-dyn g (b.vtable, b.value)).meaning b.value) c.args.workers c.args.round c.args.plan.now c.exchange.new.plan.kept.items c.args.cells.now c.exchange.new.cells _ c.in_err-exchange.ensures.left)
+
+pub returns-in-Err-NoMemory-clause-left : goal.returns-in-Err-NoMemory-clause-left
+returns-in-Err-NoMemory-clause-left g c = inr (record {
+  ready = states_of (λ b. (goal.Machine-dyn g (b.vtable, b.value)).meaning b.value) c.exchange.new.cells;
+  exchange = c.in_ok-exchange.ensures.exchanged.exchange;
+  partly = subst (λ f. ArePartlyPlayed (λ b. (goal.Machine-dyn g (b.vtable, b.value)).meaning b.value) f IsMoved sprint_limit c.args.workers (states_of (λ b. (goal.Machine-dyn g (b.vtable, b.value)).meaning b.value) c.exchange.new.cells) c.play_round.new.cells) c.in-Err-NoMemory.field-0-is (c.in-Err-NoMemory.ensures.left (fine_quiet (λ b. (goal.Machine-dyn g (b.vtable, b.value)).meaning b.value) c.args.cells.now c.exchange.new.cells c.exchange.ensures.quiet c.requires.fine));
+})
 
 pub returns-in_err-exchange-clause-honest : goal.returns-in_err-exchange-clause-honest
 returns-in_err-exchange-clause-honest g c = λ h. (nothing_on c.from_residual.result _ _ c.from_residual.ensures.1, err_on c.from_residual.result _ IsOtherFault c.from_residual.ensures.1 (c.in_err-exchange.ensures.honest h).1)
@@ -96,26 +103,26 @@ returns-in-Ok-clause-parts g c = shared_over (λ b. (goal.Machine-dyn g (b.vtabl
 pub returns-in_err-exchange-clause-same : goal.returns-in_err-exchange-clause-same
 returns-in_err-exchange-clause-same g c = quiet_same (λ b. (goal.Machine-dyn g (b.vtable, b.value)).meaning b.value) c.args.cells.now c.exchange.new.cells c.exchange.ensures.quiet
 
-pub returns-in_err-exchange-clause-left : goal.returns-in_err-exchange-clause-left
-returns-in_err-exchange-clause-left g c = c.exchange.ensures.left
+pub returns-in_err-exchange-clause-keeps : goal.returns-in_err-exchange-clause-keeps
+returns-in_err-exchange-clause-keeps g c = c.exchange.ensures.keeps
 
 pub returns-in-Ok-clause-same : goal.returns-in-Ok-clause-same
 returns-in-Ok-clause-same g c = same_then (λ b. (goal.Machine-dyn g (b.vtable, b.value)).meaning b.value) c.args.cells.now c.exchange.new.cells c.play_round.new.cells (quiet_same (λ b. (goal.Machine-dyn g (b.vtable, b.value)).meaning b.value) c.args.cells.now c.exchange.new.cells c.exchange.ensures.quiet) c.play_round.ensures.same
 
-pub returns-in-Ok-clause-left : goal.returns-in-Ok-clause-left
-returns-in-Ok-clause-left g c = c.exchange.ensures.left
+pub returns-in-Ok-clause-keeps : goal.returns-in-Ok-clause-keeps
+returns-in-Ok-clause-keeps g c = c.exchange.ensures.keeps
 
 pub returns-in-Err-StampEnd-clause-same : goal.returns-in-Err-StampEnd-clause-same
 returns-in-Err-StampEnd-clause-same g c = same_then (λ b. (goal.Machine-dyn g (b.vtable, b.value)).meaning b.value) c.args.cells.now c.exchange.new.cells c.play_round.new.cells (quiet_same (λ b. (goal.Machine-dyn g (b.vtable, b.value)).meaning b.value) c.args.cells.now c.exchange.new.cells c.exchange.ensures.quiet) c.play_round.ensures.same
 
-pub returns-in-Err-StampEnd-clause-left : goal.returns-in-Err-StampEnd-clause-left
-returns-in-Err-StampEnd-clause-left g c = keeps_then c.args.plan.now c.exchange.new.plan _ c.exchange.ensures.left (keeps_same c.exchange.new.plan _ refl refl refl refl)
+pub returns-in-Err-StampEnd-clause-keeps : goal.returns-in-Err-StampEnd-clause-keeps
+returns-in-Err-StampEnd-clause-keeps g c = keeps_then c.args.plan.now c.exchange.new.plan _ c.exchange.ensures.keeps (keeps_same c.exchange.new.plan _ refl refl refl)
 
 pub returns-in-Err-NoMemory-clause-same : goal.returns-in-Err-NoMemory-clause-same
 returns-in-Err-NoMemory-clause-same g c = same_then (λ b. (goal.Machine-dyn g (b.vtable, b.value)).meaning b.value) c.args.cells.now c.exchange.new.cells c.play_round.new.cells (quiet_same (λ b. (goal.Machine-dyn g (b.vtable, b.value)).meaning b.value) c.args.cells.now c.exchange.new.cells c.exchange.ensures.quiet) c.play_round.ensures.same
 
-pub returns-in-Err-NoMemory-clause-left : goal.returns-in-Err-NoMemory-clause-left
-returns-in-Err-NoMemory-clause-left g c = c.exchange.ensures.left
+pub returns-in-Err-NoMemory-clause-keeps : goal.returns-in-Err-NoMemory-clause-keeps
+returns-in-Err-NoMemory-clause-keeps g c = c.exchange.ensures.keeps
 
 pub returns-in_err-exchange-clause-wires : goal.returns-in_err-exchange-clause-wires
 returns-in_err-exchange-clause-wires g c = turned_on g.D.W.Wire.told g.D.W.Wire.is_joined c.args.plan.now.wires.items c.exchange.new.plan.wires.items (Unit {0}) c.from_residual.result _ c.from_residual.ensures.1 c.in_err-exchange.ensures.wires

@@ -1,4 +1,4 @@
-use Rattle.std.proofs.Common.{◌≡◌, false, sym, subst}
+use Rattle.std.proofs.Common.{◌≡◌, false, refl, sym, subst, inl}
 use Rattle.std.specs.Prelude.{IfOk, OnOk, IfErr}
 use Rattle.worker_laws.specs.CellRuns.{MakesARun}
 use Rattle.agent_cells.specs.State.{begun_in, IsCell}
@@ -8,20 +8,19 @@ use Rattle.agent_workers.specs.Run.{views_of, AreDulyPlayed, RestsAtStill}
 use Rattle.agent_workers.proofs.ListLaws.{carry}
 use Rattle.agent_workers.proofs.RunLaws.{same_all}
 use Rattle.tcp_links.specs.Linked.{AreLinkedOver}
-use Rattle.tcp_links.specs.Ends.{HasHeldOver, DiffersOver}
+use Rattle.tcp_links.specs.Ends.{HasHeldOver, IsLeftBy}
 use Rattle.tcp_links.specs.Shared.{HaveRunSharedOver}
 use Rattle.tcp_links.proofs.PlanLaws.{same_plan}
 use Rattle.tcp_links.proofs.WeaveLaws.{on_ok}
-use Rattle.tcp_links.proofs.RunLaws.{on_err, new_as, linked_as, held_as, differs_as}
+use Rattle.tcp_links.proofs.RunLaws.{on_err, new_as, linked_as, held_as, left_as}
 use Rattle.node_exchange.specs.Honest.{AreHonest}
-use Rattle.tcp_links.specs.Left.{IsLeftBy}
 use Rattle.tcp_links.proofs.OverLaws.{err_on}
-use Rattle.tcp_links.proofs.LeftLaws.{keeps_same, left_then}
+use Rattle.tcp_links.proofs.LeftLaws.{keeps_same, keeps_then}
 use Rattle.node_exchange.proofs.TurnLaws.{turned_none}
 use Rattle.node_exchange.specs.Turned.{AreTurned}
 use Rattle.tcp_links.specs.Left.{pairs_lost_by}
 use Rattle.tcp_links.specs.Kept.{AreNoted}
-use Rattle.tcp_links.proofs.NotedLaws.{on_fault}
+use Rattle.tcp_links.proofs.NotedLaws.{on_fault, fault_then}
 use Rattle.tcp_links.proofs.RunLaws.{linked_noted}
 use Rattle.tcp_links.proofs.run.run_nodes.Goals as goal
 
@@ -52,9 +51,6 @@ returns-clause-still g c = carry (λ old new. IfOk c.run_over.result (λ end. Re
 pub returns-clause-held : goal.returns-clause-held
 returns-clause-held g c = carry (λ old new. OnOk c.run_over.result (HasHeldOver c.args.budget (views_of (λ b. (goal.Machine-dyn g (b.vtable, b.value)).meaning b.value) old) c.args.plan.now (states_of (λ b. (goal.Machine-dyn g (b.vtable, b.value)).meaning b.value) new))) _ _ _ _ c.as_mut_slice.ensures.value (written _ c.args.cells.now.items c.run_over.new.cells c.as_mut_slice.result.now c.args.cells.now.ok.0 c.run_over.ensures.size c.as_mut_slice.ensures.value) (on_ok c.run_over.result c.run_over.ensures.held (held_as (λ b. (goal.Machine-dyn g (b.vtable, b.value)).meaning b.value) c.args.budget (views_of (λ b. (goal.Machine-dyn g (b.vtable, b.value)).meaning b.value) c.as_mut_slice.result.now) c.args.plan.now c.prepare.new.plan (states_of (λ b. (goal.Machine-dyn g (b.vtable, b.value)).meaning b.value) c.run_over.new.cells) c.prepare.ensures.same.agents c.prepare.ensures.same.nodes c.prepare.ensures.same.kept))
 
-pub returns-clause-differs : goal.returns-clause-differs
-returns-clause-differs g c = carry (λ old new. IfErr c.run_over.result (DiffersOver c.args.budget (views_of (λ b. (goal.Machine-dyn g (b.vtable, b.value)).meaning b.value) old) c.args.plan.now (states_of (λ b. (goal.Machine-dyn g (b.vtable, b.value)).meaning b.value) new))) _ _ _ _ c.as_mut_slice.ensures.value (written _ c.args.cells.now.items c.run_over.new.cells c.as_mut_slice.result.now c.args.cells.now.ok.0 c.run_over.ensures.size c.as_mut_slice.ensures.value) (on_err _ _ c.run_over.result (λ e. differs_as (λ b. (goal.Machine-dyn g (b.vtable, b.value)).meaning b.value) c.args.budget (views_of (λ b. (goal.Machine-dyn g (b.vtable, b.value)).meaning b.value) c.as_mut_slice.result.now) c.args.plan.now c.prepare.new.plan (states_of (λ b. (goal.Machine-dyn g (b.vtable, b.value)).meaning b.value) c.run_over.new.cells) e c.prepare.ensures.same.agents c.prepare.ensures.same.nodes c.prepare.ensures.same.kept) c.run_over.ensures.differs)
-
 pub returns-clause-plan : goal.returns-clause-plan
 returns-clause-plan g c = on_ok c.run_over.result c.run_over.ensures.plan (new_as c.args.plan.now.agents c.prepare.new.plan.agents c.args.plan.now.nodes c.prepare.new.plan.nodes c.run_over.new.plan c.prepare.ensures.same.agents c.prepare.ensures.same.nodes)
 
@@ -70,17 +66,11 @@ returns-in_err-prepare-clause-same g c = same_all (λ b. (goal.Machine-dyn g (b.
 pub returns-in_err-prepare-clause-sound : goal.returns-in_err-prepare-clause-sound
 returns-in_err-prepare-clause-sound g c = c.requires.sound
 
-pub returns-in_err-prepare-clause-left : goal.returns-in_err-prepare-clause-left
-returns-in_err-prepare-clause-left g c = err_on c.from_residual.result _ (IsLeftBy c.args.plan.now c.prepare.new.plan) c.from_residual.ensures.1 (keeps_same c.args.plan.now c.prepare.new.plan c.prepare.ensures.same.agents c.prepare.ensures.same.nodes c.prepare.ensures.same.ends c.prepare.ensures.same.kept)
-
 pub returns-clause-same : goal.returns-clause-same
 returns-clause-same g c = carry (λ old new. EachBecomes IsSameCell old new) _ _ _ _ c.as_mut_slice.ensures.value (written _ c.args.cells.now.items c.run_over.new.cells c.as_mut_slice.result.now c.args.cells.now.ok.0 c.run_over.ensures.size c.as_mut_slice.ensures.value) c.run_over.ensures.same
 
 pub returns-clause-sound : goal.returns-clause-sound
 returns-clause-sound g c = subst (EachIs (λ x. IsCell (λ b. (goal.Machine-dyn g (b.vtable, b.value)).meaning b.value) x)) (sym (written _ c.args.cells.now.items c.run_over.new.cells c.as_mut_slice.result.now c.args.cells.now.ok.0 c.run_over.ensures.size c.as_mut_slice.ensures.value)) c.run_over.ensures.sound
-
-pub returns-clause-left : goal.returns-clause-left
-returns-clause-left g c = on_err _ _ c.run_over.result (λ e. left_then c.args.plan.now c.prepare.new.plan c.run_over.new.plan e (keeps_same c.args.plan.now c.prepare.new.plan c.prepare.ensures.same.agents c.prepare.ensures.same.nodes c.prepare.ensures.same.ends c.prepare.ensures.same.kept)) c.run_over.ensures.left
 
 pub returns-in_err-prepare-clause-wires : goal.returns-in_err-prepare-clause-wires
 returns-in_err-prepare-clause-wires g c = subst (λ ws. AreTurned g.D.W.Wire.told g.D.W.Wire.is_joined (pairs_lost_by c.from_residual.result) c.args.plan.now.wires.items ws) (sym c.prepare.ensures.same.wires) (turned_none g.D.W.Wire.told g.D.W.Wire.is_joined _ c.args.plan.now.wires.items)
@@ -93,3 +83,16 @@ returns-in_err-prepare-clause-noted g c = on_fault c.from_residual.result (subst
 
 pub returns-clause-noted : goal.returns-clause-noted
 returns-clause-noted g c = c.run_over.ensures.noted
+
+pub returns-in_err-prepare-clause-keeps : goal.returns-in_err-prepare-clause-keeps
+returns-in_err-prepare-clause-keeps g c = on_fault c.from_residual.result (keeps_same c.args.plan.now c.prepare.new.plan c.prepare.ensures.same.agents c.prepare.ensures.same.nodes c.prepare.ensures.same.ends)
+
+pub returns-clause-keeps : goal.returns-clause-keeps
+returns-clause-keeps g c = fault_then c.run_over.result (keeps_then c.args.plan.now c.prepare.new.plan c.run_over.new.plan (keeps_same c.args.plan.now c.prepare.new.plan c.prepare.ensures.same.agents c.prepare.ensures.same.nodes c.prepare.ensures.same.ends)) c.run_over.ensures.keeps
+
+pub returns-in_err-prepare-clause-left : goal.returns-in_err-prepare-clause-left
+returns-in_err-prepare-clause-left g c = err_on c.from_residual.result _ (IsLeftBy (λ b. (goal.Machine-dyn g (b.vtable, b.value)).meaning b.value) c.args.workers c.args.budget c.args.plan.now c.args.cells.now.items c.prepare.new.plan.kept.items c.args.cells.now.items) c.from_residual.ensures.1 (inl (record { none = c.prepare.ensures.same.kept; cells = inl refl }))
+
+pub returns-clause-left : goal.returns-clause-left
+returns-clause-left g c = carry (λ old new. IfErr c.run_over.result (IsLeftBy (λ b. (goal.Machine-dyn g (b.vtable, b.value)).meaning b.value) c.args.workers c.args.budget c.args.plan.now old c.run_over.new.plan.kept.items new)) _ _ _ _ c.as_mut_slice.ensures.value (written _ c.args.cells.now.items c.run_over.new.cells c.as_mut_slice.result.now c.args.cells.now.ok.0 c.run_over.ensures.size c.as_mut_slice.ensures.value)
+    (on_err _ _ c.run_over.result (λ e. left_as (λ b. (goal.Machine-dyn g (b.vtable, b.value)).meaning b.value) c.args.workers c.args.budget c.args.plan.now c.prepare.new.plan c.run_over.new.plan.kept.items c.as_mut_slice.result.now c.run_over.new.cells e c.prepare.ensures.same.agents c.prepare.ensures.same.nodes c.prepare.ensures.same.kept) c.run_over.ensures.left)

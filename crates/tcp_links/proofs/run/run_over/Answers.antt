@@ -1,5 +1,4 @@
-use Rattle.std.proofs.Common.{◌∙◌, refl, sym, subst}
-use Rattle.worker_laws.specs.OneNode.{home}
+use Rattle.std.proofs.Common.{◌∙◌, refl, sym, subst, inl, inr}
 use Rattle.agent_cells.proofs.CellLaws.{written}
 use Rattle.agent_workers.specs.Joined.{states_of}
 use Rattle.agent_workers.specs.Run.{views_of}
@@ -8,13 +7,14 @@ use Rattle.agent_workers.proofs.RoundLaws.{sound_from}
 use Rattle.agent_workers.proofs.RunLaws.{begun_all, fine_all}
 use Rattle.node_exchange.specs.Honest.{AreHonest}
 use Rattle.tcp_links.specs.declared.over.Played.{Played}
-use Rattle.tcp_links.specs.Ends.{DiffersOver}
+use Rattle.tcp_links.specs.declared.fault.NodeFault.TheVariants.{Differs}
+use Rattle.tcp_links.specs.Ends.{IsLeftBy}
 use Rattle.tcp_links.specs.Faults.{IsOtherFault}
 use Rattle.tcp_links.proofs.OverLaws.{err_on, nothing_on, cause_on, joined_over, joined_quiet}
-use Rattle.tcp_links.proofs.RunLaws.{held_in, differs_in, never_differ, starts_over, joined_start, none_start, over_start, held_start, new_over, differs_played, differs_last, differs_kept, no_break, last_run, last_duly, last_still, last_held}
+use Rattle.tcp_links.proofs.RunLaws.{held_in, differs_in, never_differ, starts_over, joined_start, none_start, over_start, held_start, new_over, left_come, fault_last, differs_kept, no_break, last_run, last_duly, last_still, last_held}
 use Rattle.tcp_links.proofs.SharedLaws.{run_shared}
-use Rattle.tcp_links.specs.Left.{IsTakenOut, IsLeftBy}
-use Rattle.tcp_links.proofs.LeftLaws.{keeps_none, keeps_then, left_played, left_exchanged, left_differing, taken_long, same_then}
+use Rattle.tcp_links.specs.Left.{IsTakenOut}
+use Rattle.tcp_links.proofs.LeftLaws.{keeps_none, keeps_same, keeps_then, taken_long, same_then}
 use Rattle.node_exchange.proofs.TurnLaws.{turned_none, turned_then}
 use Rattle.node_exchange.specs.Turned.{AreTurned}
 use Rattle.tcp_links.proofs.LostLaws.{turned_on}
@@ -74,9 +74,6 @@ returns-in_err-begin_all-clause-size g c = c.begin_all.ensures.same.size
 pub returns-in_err-play-clause-size : goal.returns-in_err-play-clause-size
 returns-in_err-play-clause-size g c = c.play_over.ensures.size ∙ c.in_ok-begin_all.ensures.started.size
 
-pub returns-in_err-play-clause-differs : goal.returns-in_err-play-clause-differs
-returns-in_err-play-clause-differs g c = err_on c.from_residual-in_err-play.result _ (DiffersOver c.args.budget (views_of (λ b. (goal.Machine-dyn g (b.vtable, b.value)).meaning b.value) c.args.cells.now) c.args.plan.now (states_of (λ b. (goal.Machine-dyn g (b.vtable, b.value)).meaning b.value) c.play_over.new.cells)) c.from_residual-in_err-play.ensures.1 (differs_played (λ b. (goal.Machine-dyn g (b.vtable, b.value)).meaning b.value) c.args.budget (views_of (λ b. (goal.Machine-dyn g (b.vtable, b.value)).meaning b.value) c.args.cells.now) (states_of (λ b. (goal.Machine-dyn g (b.vtable, b.value)).meaning b.value) c.begin_all.new.cells) (states_of (λ b. (goal.Machine-dyn g (b.vtable, b.value)).meaning b.value) c.play_over.new.cells) c.args.plan.now _ (starts_over (λ b. (goal.Machine-dyn g (b.vtable, b.value)).meaning b.value) c.args.plan.now.nodes c.args.cells.now c.begin_all.new.cells c.requires.joined c.in_ok-begin_all.ensures.started) c.in_err-play.ensures.differs)
-
 pub returns-in_err-play-clause-cause : goal.returns-in_err-play-clause-cause
 returns-in_err-play-clause-cause g c = cause_on Played _ _ _ c.from_residual-in_err-play.result _ refl c.from_residual-in_err-play.ensures.1 c.in_err-play.ensures.cause
 
@@ -85,9 +82,6 @@ returns-in_err-play-clause-honest g c = λ h. (nothing_on c.from_residual-in_err
 
 pub returns-in_err-exchange-clause-size : goal.returns-in_err-exchange-clause-size
 returns-in_err-exchange-clause-size g c = c.exchange.ensures.quiet.size ∙ c.play_over.ensures.size ∙ c.in_ok-begin_all.ensures.started.size
-
-pub returns-in_err-exchange-clause-differs : goal.returns-in_err-exchange-clause-differs
-returns-in_err-exchange-clause-differs g c = err_on c.from_residual-in_err-exchange.result _ (DiffersOver c.args.budget (views_of (λ b. (goal.Machine-dyn g (b.vtable, b.value)).meaning b.value) c.args.cells.now) c.args.plan.now (states_of (λ b. (goal.Machine-dyn g (b.vtable, b.value)).meaning b.value) c.exchange.new.cells)) c.from_residual-in_err-exchange.ensures.1 (differs_last (λ b. (goal.Machine-dyn g (b.vtable, b.value)).meaning b.value) c.args.budget c.in_ok-play.play.rounds (views_of (λ b. (goal.Machine-dyn g (b.vtable, b.value)).meaning b.value) c.args.cells.now) (states_of (λ b. (goal.Machine-dyn g (b.vtable, b.value)).meaning b.value) c.begin_all.new.cells) c.args.plan.now c.play_over.new.plan c.play_over.new.cells c.in_ok-play.play.end (starts_over (λ b. (goal.Machine-dyn g (b.vtable, b.value)).meaning b.value) c.args.plan.now.nodes c.args.cells.now c.begin_all.new.cells c.requires.joined c.in_ok-begin_all.ensures.started) c.in_ok-play.ensures.over c.in_ok-play.ensures.played (states_of (λ b. (goal.Machine-dyn g (b.vtable, b.value)).meaning b.value) c.exchange.new.cells) _ c.in_err-exchange.ensures.differs)
 
 pub returns-in_err-exchange-clause-cause : goal.returns-in_err-exchange-clause-cause
 returns-in_err-exchange-clause-cause g c = cause_on (Unit {0}) _ _ _ c.from_residual-in_err-exchange.result _ c.in_ok-play.ensures.cause c.from_residual-in_err-exchange.ensures.1 c.in_err-exchange.ensures.cause
@@ -106,9 +100,6 @@ returns-in-Some-clause-cause g c = c.in_ok-exchange.ensures.cause ∙ c.in_ok-pl
 
 pub returns-in-Some-clause-dialer : goal.returns-in-Some-clause-dialer
 returns-in-Some-clause-dialer g c = λ d. c.exchange.ensures.dialer (c.play_over.ensures.dialer d)
-
-pub returns-in-Some-clause-differs : goal.returns-in-Some-clause-differs
-returns-in-Some-clause-differs g c = differs_kept (λ b. (goal.Machine-dyn g (b.vtable, b.value)).meaning b.value) c.args.budget c.in_ok-play.play.rounds (views_of (λ b. (goal.Machine-dyn g (b.vtable, b.value)).meaning b.value) c.args.cells.now) (states_of (λ b. (goal.Machine-dyn g (b.vtable, b.value)).meaning b.value) c.begin_all.new.cells) c.args.plan.now c.play_over.new.plan c.play_over.new.cells c.in_ok-play.play.end (starts_over (λ b. (goal.Machine-dyn g (b.vtable, b.value)).meaning b.value) c.args.plan.now.nodes c.args.cells.now c.begin_all.new.cells c.requires.joined c.in_ok-begin_all.ensures.started) c.in_ok-play.ensures.over c.in_ok-play.ensures.played c.exchange.new.plan c.exchange.new.cells c.settle_all.new.cells c.in_ok-exchange.ensures.exchanged c.settle_all.ensures.settled _ (differs_in _ _ _ c.as_mut_slice.ensures.value c.in-Some.ensures.found)
 
 pub returns-in-Some-clause-honest : goal.returns-in-Some-clause-honest
 returns-in-Some-clause-honest g c = λ h. absurd (never_differ c.as_mut_slice.result.now _ (held_in _ _ (sym c.as_mut_slice.ensures.value) ((c.in_ok-exchange.ensures.honest (c.in_ok-play.ensures.honest h (held_start (λ b. (goal.Machine-dyn g (b.vtable, b.value)).meaning b.value) c.args.plan.now c.args.cells.now c.requires.plan c.requires.linked)).0.0).0.1 (c.in_ok-play.ensures.honest h (held_start (λ b. (goal.Machine-dyn g (b.vtable, b.value)).meaning b.value) c.args.plan.now c.args.cells.now c.requires.plan c.requires.linked)).0.1)) c.in-Some.ensures.found)
@@ -176,21 +167,6 @@ returns-clause-same g c = same_then (λ b. (goal.Machine-dyn g (b.vtable, b.valu
 pub returns-clause-sound : goal.returns-clause-sound
 returns-clause-sound g c = sound_still (λ b. (goal.Machine-dyn g (b.vtable, b.value)).meaning b.value) c.exchange.new.cells c.settle_all.new.cells (sound_still (λ b. (goal.Machine-dyn g (b.vtable, b.value)).meaning b.value) c.play_over.new.cells c.exchange.new.cells (sound_from (λ b. (goal.Machine-dyn g (b.vtable, b.value)).meaning b.value) c.play_over.new.cells c.play_over.ensures.begun) c.exchange.ensures.quiet) c.settle_all.ensures.settled.quiet
 
-pub returns-in_err-begin_all-clause-left : goal.returns-in_err-begin_all-clause-left
-returns-in_err-begin_all-clause-left g c = err_on c.from_residual.result _ (IsLeftBy c.args.plan.now c.args.plan.now) c.from_residual.ensures.1 (keeps_none c.args.plan.now)
-
-pub returns-in_err-play-clause-left : goal.returns-in_err-play-clause-left
-returns-in_err-play-clause-left g c = err_on c.from_residual-in_err-play.result _ (IsLeftBy c.args.plan.now c.play_over.new.plan) c.from_residual-in_err-play.ensures.1 (left_played c.args.plan.now.nodes (home c.args.plan.now.nodes c.args.plan.now.agents) c.args.budget c.args.plan.now.kept.items (states_of (λ b. (goal.Machine-dyn g (b.vtable, b.value)).meaning b.value) c.begin_all.new.cells) c.args.plan.now c.play_over.new.plan _ c.in_err-play.ensures.differs c.play_over.ensures.left)
-
-pub returns-in_err-exchange-clause-left : goal.returns-in_err-exchange-clause-left
-returns-in_err-exchange-clause-left g c = err_on c.from_residual-in_err-exchange.result _ (IsLeftBy c.args.plan.now c.exchange.new.plan) c.from_residual-in_err-exchange.ensures.1 (left_exchanged (λ b. (goal.Machine-dyn g (b.vtable, b.value)).meaning b.value) c.in_ok-play.play.rounds c.play_over.new.plan c.args.plan.now c.exchange.new.plan c.play_over.new.cells _ c.in_err-exchange.ensures.differs (keeps_then c.args.plan.now c.play_over.new.plan c.exchange.new.plan c.play_over.ensures.left c.exchange.ensures.left))
-
-pub returns-in-Some-clause-left : goal.returns-in-Some-clause-left
-returns-in-Some-clause-left g c =
-    let out = subst (λ ws. IsTakenOut c.in-Some.difference ws c.compare.new.kept) c.as_mut_slice.ensures.value c.in-Some.ensures.left in
-    left_differing c.in-Some.difference c.args.plan.now c.exchange.new.plan _ c.compare.new.kept (keeps_then c.args.plan.now c.play_over.new.plan c.exchange.new.plan c.play_over.ensures.left c.exchange.ensures.left) refl refl refl
-    (written _ c.exchange.new.plan.kept.items c.compare.new.kept c.as_mut_slice.result.now c.exchange.new.plan.kept.ok.0 (taken_long c.in-Some.difference c.as_mut_slice.result.now c.compare.new.kept c.in-Some.ensures.left) c.as_mut_slice.ensures.value) out
-
 pub returns-in_err-begin_all-clause-wires : goal.returns-in_err-begin_all-clause-wires
 returns-in_err-begin_all-clause-wires g c = turned_none g.D.W.Wire.told g.D.W.Wire.is_joined _ c.args.plan.now.wires.items
 
@@ -220,3 +196,34 @@ returns-in-Some-clause-noted g c =
     let out = subst (λ ws. IsTakenOut c.in-Some.difference ws c.compare.new.kept) c.as_mut_slice.ensures.value c.in-Some.ensures.left in
     let kept = written _ c.exchange.new.plan.kept.items c.compare.new.kept c.as_mut_slice.result.now c.exchange.new.plan.kept.ok.0 (taken_long c.in-Some.difference c.as_mut_slice.result.now c.compare.new.kept c.in-Some.ensures.left) c.as_mut_slice.ensures.value in
     subst (λ ws. AreNoted ws c.exchange.new.plan.ends.items) (sym kept) (noted_out c.in-Some.difference c.exchange.new.plan.kept.items c.compare.new.kept c.exchange.new.plan.ends.items out c.exchange.ensures.noted)
+
+pub returns-in_err-begin_all-clause-keeps : goal.returns-in_err-begin_all-clause-keeps
+returns-in_err-begin_all-clause-keeps g c = on_fault c.from_residual.result (keeps_none c.args.plan.now)
+
+pub returns-in_err-play-clause-keeps : goal.returns-in_err-play-clause-keeps
+returns-in_err-play-clause-keeps g c = on_fault c.from_residual-in_err-play.result c.play_over.ensures.keeps
+
+pub returns-in_err-exchange-clause-keeps : goal.returns-in_err-exchange-clause-keeps
+returns-in_err-exchange-clause-keeps g c = on_fault c.from_residual-in_err-exchange.result (keeps_then c.args.plan.now c.play_over.new.plan c.exchange.new.plan c.play_over.ensures.keeps c.exchange.ensures.keeps)
+
+pub returns-in-Some-clause-keeps : goal.returns-in-Some-clause-keeps
+returns-in-Some-clause-keeps g c = keeps_then c.args.plan.now c.exchange.new.plan _ (keeps_then c.args.plan.now c.play_over.new.plan c.exchange.new.plan c.play_over.ensures.keeps c.exchange.ensures.keeps) (keeps_same c.exchange.new.plan _ refl refl refl)
+
+pub returns-in_err-begin_all-clause-left : goal.returns-in_err-begin_all-clause-left
+returns-in_err-begin_all-clause-left g c = err_on c.from_residual.result _ (IsLeftBy (λ b. (goal.Machine-dyn g (b.vtable, b.value)).meaning b.value) c.args.workers c.args.budget c.args.plan.now c.args.cells.now c.args.plan.now.kept.items c.begin_all.new.cells) c.from_residual.ensures.1 (inl (record { none = refl; cells = inr c.in_err-begin_all.ensures.left }))
+
+pub returns-in_err-play-clause-left : goal.returns-in_err-play-clause-left
+returns-in_err-play-clause-left g c = err_on c.from_residual-in_err-play.result _ (IsLeftBy (λ b. (goal.Machine-dyn g (b.vtable, b.value)).meaning b.value) c.args.workers c.args.budget c.args.plan.now c.args.cells.now c.play_over.new.plan.kept.items c.play_over.new.cells) c.from_residual-in_err-play.ensures.1
+    (left_come (λ b. (goal.Machine-dyn g (b.vtable, b.value)).meaning b.value) c.args.workers c.args.budget c.args.plan.now c.play_over.new.plan.kept.items c.args.cells.now c.play_over.new.cells (states_of (λ b. (goal.Machine-dyn g (b.vtable, b.value)).meaning b.value) c.begin_all.new.cells) _ (starts_over (λ b. (goal.Machine-dyn g (b.vtable, b.value)).meaning b.value) c.args.plan.now.nodes c.args.cells.now c.begin_all.new.cells c.requires.joined c.in_ok-begin_all.ensures.started) c.in_err-play.ensures.left)
+
+pub returns-in_err-exchange-clause-left : goal.returns-in_err-exchange-clause-left
+returns-in_err-exchange-clause-left g c = err_on c.from_residual-in_err-exchange.result _ (IsLeftBy (λ b. (goal.Machine-dyn g (b.vtable, b.value)).meaning b.value) c.args.workers c.args.budget c.args.plan.now c.args.cells.now c.exchange.new.plan.kept.items c.exchange.new.cells) c.from_residual-in_err-exchange.ensures.1
+    (left_come (λ b. (goal.Machine-dyn g (b.vtable, b.value)).meaning b.value) c.args.workers c.args.budget c.args.plan.now c.exchange.new.plan.kept.items c.args.cells.now c.exchange.new.cells (states_of (λ b. (goal.Machine-dyn g (b.vtable, b.value)).meaning b.value) c.begin_all.new.cells) _ (starts_over (λ b. (goal.Machine-dyn g (b.vtable, b.value)).meaning b.value) c.args.plan.now.nodes c.args.cells.now c.begin_all.new.cells c.requires.joined c.in_ok-begin_all.ensures.started)
+    (fault_last (λ b. (goal.Machine-dyn g (b.vtable, b.value)).meaning b.value) c.args.budget c.in_ok-play.play.rounds (views_of (λ b. (goal.Machine-dyn g (b.vtable, b.value)).meaning b.value) c.args.cells.now) (states_of (λ b. (goal.Machine-dyn g (b.vtable, b.value)).meaning b.value) c.begin_all.new.cells) c.args.plan.now c.play_over.new.plan c.play_over.new.cells c.in_ok-play.play.end (starts_over (λ b. (goal.Machine-dyn g (b.vtable, b.value)).meaning b.value) c.args.plan.now.nodes c.args.cells.now c.begin_all.new.cells c.requires.joined c.in_ok-begin_all.ensures.started) c.in_ok-play.ensures.over c.in_ok-play.ensures.played c.args.workers c.exchange.new.plan c.exchange.new.cells _ c.in_err-exchange.ensures.left))
+
+pub returns-in-Some-clause-left : goal.returns-in-Some-clause-left
+returns-in-Some-clause-left g c =
+    let out = subst (λ ws. IsTakenOut c.in-Some.difference ws c.compare.new.kept) c.as_mut_slice.ensures.value c.in-Some.ensures.left in
+    let kept = written _ c.exchange.new.plan.kept.items c.compare.new.kept c.as_mut_slice.result.now c.exchange.new.plan.kept.ok.0 (taken_long c.in-Some.difference c.as_mut_slice.result.now c.compare.new.kept c.in-Some.ensures.left) c.as_mut_slice.ensures.value in
+    left_come (λ b. (goal.Machine-dyn g (b.vtable, b.value)).meaning b.value) c.args.workers c.args.budget c.args.plan.now _ c.args.cells.now c.settle_all.new.cells (states_of (λ b. (goal.Machine-dyn g (b.vtable, b.value)).meaning b.value) c.begin_all.new.cells) (Differs c.in-Some.difference) (starts_over (λ b. (goal.Machine-dyn g (b.vtable, b.value)).meaning b.value) c.args.plan.now.nodes c.args.cells.now c.begin_all.new.cells c.requires.joined c.in_ok-begin_all.ensures.started)
+    (differs_kept (λ b. (goal.Machine-dyn g (b.vtable, b.value)).meaning b.value) c.args.budget c.in_ok-play.play.rounds (views_of (λ b. (goal.Machine-dyn g (b.vtable, b.value)).meaning b.value) c.args.cells.now) (states_of (λ b. (goal.Machine-dyn g (b.vtable, b.value)).meaning b.value) c.begin_all.new.cells) c.args.plan.now c.play_over.new.plan c.play_over.new.cells c.in_ok-play.play.end (starts_over (λ b. (goal.Machine-dyn g (b.vtable, b.value)).meaning b.value) c.args.plan.now.nodes c.args.cells.now c.begin_all.new.cells c.requires.joined c.in_ok-begin_all.ensures.started) c.in_ok-play.ensures.over c.in_ok-play.ensures.played c.exchange.new.plan c.exchange.new.cells c.settle_all.new.cells c.in_ok-exchange.ensures.exchanged c.settle_all.ensures.settled c.args.workers c.in-Some.difference _ (differs_in _ _ _ c.as_mut_slice.ensures.value c.in-Some.ensures.found) (subst (λ ws. IsTakenOut c.in-Some.difference c.exchange.new.plan.kept.items ws) (sym kept) out))

@@ -3,7 +3,8 @@ use Rattle.std.proofs.lemmas.Option.{slice_get-get_or}
 use Rattle.agent_workers.proofs.JoinLaws.{each_stays, each_stays_then}
 use Rattle.tcp_links.specs.Woven.{HaveFed, AreEmptied}
 use Rattle.tcp_links.proofs.WeaveLaws.{feed_inside, feed_next, feed_turn, taken_next, link_next, note_next, emptied_turn, emptied_none, fed_none}
-use Rattle.tcp_links.proofs.LeftLaws.{all_ends_none, all_ends_set, have_none, have_set}
+use Rattle.tcp_links.proofs.LeftLaws.{all_ends_none, all_ends_set}
+use Rattle.tcp_links.proofs.PartLaws.{keep_none, keep_next}
 use Rattle.tcp_links.proofs.NotedLaws.{all_to_noted, noted_set}
 use Rattle.tcp_links.proofs.weave.feed_all.Goals as goal
 
@@ -12,7 +13,7 @@ loop-place-init g c = record {
   quiet = each_stays (λ b. (goal.Machine-dyn g (b.vtable, b.value)).meaning b.value) c.args.cells.now;
   fed = fed_none (λ b. (goal.Machine-dyn g (b.vtable, b.value)).meaning b.value) c.args.cells.now c.args.kept.now c.args.ends.now c.args.passings.now;
   same = all_ends_none c.args.ends.now;
-  kept = have_none c.args.kept.now;
+  kept = keep_none c.args.kept.now c.args.passings.now;
   noted = all_to_noted c.args.kept.now c.args.ends.now c.args.passings.now c.requires.sizes.0 c.requires.sizes.1;
   left = emptied_none c.args.passings.now;
 }
@@ -84,7 +85,7 @@ loop-place-preserved g c =
       fed = feed_turn (λ b. (goal.Machine-dyn g (b.vtable, b.value)).meaning b.value) c.loop-place.place c.loop-place.cells c.feed_at.new.cells c.args.kept.now c.loop-place.kept c.args.ends.now c.loop-place.ends c.args.passings.now
           (get_or c.loop-place.kept c.loop-place.place c.index-kept-place.result) c.feed_at.new.link (get_or c.loop-place.ends c.loop-place.place c.index-ends-place.result) c.feed_at.new.ends (get_or c.loop-place.passings c.loop-place.place c.index-passings-place.result) i.fed c.requires.can.apart c.feed_at.ensures.quiet c.feed_at.ensures.known at_w at_d at_p c.in_ok-feed_at.ensures.fed;
       same = all_ends_set c.args.ends.now c.loop-place.ends c.loop-place.place c.index-ends-place.result c.feed_at.new.ends i.same (omega (arith, test, size, long)) c.feed_at.ensures.ends;
-      kept = have_set c.args.kept.now c.loop-place.kept c.loop-place.place c.index-kept-place.result c.feed_at.new.link i.kept (omega (arith, test, wires)) c.feed_at.ensures.kept;
+      kept = keep_next (λ b. (goal.Machine-dyn g (b.vtable, b.value)).meaning b.value) c.loop-place.place c.loop-place.cells c.args.kept.now c.loop-place.kept c.args.ends.now c.loop-place.ends c.args.passings.now c.loop-place.passings (get_or c.loop-place.kept c.loop-place.place c.index-kept-place.result) c.feed_at.new.link (get_or c.loop-place.passings c.loop-place.place c.index-passings-place.result) i.fed i.left i.kept at_w at_q c.feed_at.ensures.kept;
       noted = λ t. noted_set c.loop-place.kept c.loop-place.ends c.loop-place.place c.feed_at.new.link c.feed_at.new.ends (i.noted t)
           (c.feed_at.ensures.noted (note_next (λ b. (goal.Machine-dyn g (b.vtable, b.value)).meaning b.value) c.loop-place.place c.loop-place.cells c.args.kept.now c.loop-place.kept c.args.ends.now c.loop-place.ends c.args.passings.now c.loop-place.passings
           (get_or c.loop-place.kept c.loop-place.place c.index-kept-place.result) (get_or c.loop-place.ends c.loop-place.place c.index-ends-place.result) (get_or c.loop-place.passings c.loop-place.place c.index-passings-place.result) i.fed i.left at_w at_d at_q t));
@@ -118,7 +119,11 @@ returns-in_err-feed_at-clause-kept g c =
     let test = c.loop-place-test.true in
     let i = c.loop-place.invariant in
     let wires = i.fed.wires in
-    have_set c.args.kept.now c.loop-place.kept c.loop-place.place c.index-kept-place.result c.feed_at.new.link i.kept (omega (arith, test, wires)) c.feed_at.ensures.kept
+    let more = i.left.size in
+    let many = c.requires.sizes.1 in
+    let at_w = slice_get-get_or c.loop-place.kept c.loop-place.place c.index-kept-place.result (omega (arith, test, wires)) in
+    let at_q = slice_get-get_or c.loop-place.passings c.loop-place.place c.index-passings-place.result (omega (arith, test, more, many)) in
+    keep_next (λ b. (goal.Machine-dyn g (b.vtable, b.value)).meaning b.value) c.loop-place.place c.loop-place.cells c.args.kept.now c.loop-place.kept c.args.ends.now c.loop-place.ends c.args.passings.now c.loop-place.passings (get_or c.loop-place.kept c.loop-place.place c.index-kept-place.result) c.feed_at.new.link (get_or c.loop-place.passings c.loop-place.place c.index-passings-place.result) i.fed i.left i.kept at_w at_q c.feed_at.ensures.kept
 
 pub returns-clause-ends : goal.returns-clause-ends
 returns-clause-ends g c = c.loop-place.invariant.same

@@ -1,10 +1,10 @@
-use Rattle.std.proofs.Common.{◌∙◌, ◌++◌, ap, ap₂, refl}
+use Rattle.std.proofs.Common.{◌∙◌, ◌++◌, ap, ap₂, refl, inl, inr}
 use Rattle.link_records.specs.Keeping.{keeps}
 use Rattle.tcp_links.proofs.WeaveLaws.{one_quiet, one_knows_so, feed_can, fed_link, inside_list}
 use Rattle.fifo_links.specs.Link.{taken_from, sent_on}
 use Rattle.tcp_links.proofs.DrainLaws.{head_none, prefix_none}
 use Rattle.tcp_links.proofs.NotedLaws.{to_noted, noted_fed, noted_kept}
-use Rattle.tcp_links.proofs.LeftLaws.{ends_none, more_none, more_kept}
+use Rattle.tcp_links.proofs.LeftLaws.{ends_none}
 use Rattle.tcp_links.proofs.weave.feed_at.Goals as goal
 
 pub feed_link-requires-clause-cell : goal.feed_link-requires-clause-cell
@@ -44,19 +44,19 @@ pub returns-then-rests-clause-ends : goal.returns-then-rests-clause-ends
 returns-then-rests-clause-ends g c = ends_none c.args.ends.now
 
 pub returns-then-rests-clause-kept : goal.returns-then-rests-clause-kept
-returns-then-rests-clause-kept g c = more_none c.args.link.now
+returns-then-rests-clause-kept g c = inl refl
 
 pub returns-in_err-ends-clause-ends : goal.returns-in_err-ends-clause-ends
 returns-in_err-ends-clause-ends g c = record { drain = head_none c.args.ends.now.drain; feed = c.feed_link.ensures.end; drained = prefix_none (taken_from c.args.ends.now.drain); fed = c.feed_link.ensures.more }
 
 pub returns-in_err-ends-clause-kept : goal.returns-in_err-ends-clause-kept
-returns-in_err-ends-clause-kept g c = more_none c.args.link.now
+returns-in_err-ends-clause-kept g c = inl refl
 
 pub returns-clause-ends : goal.returns-clause-ends
 returns-clause-ends g c = record { drain = head_none c.args.ends.now.drain; feed = c.feed_link.ensures.end; drained = prefix_none (taken_from c.args.ends.now.drain); fed = c.feed_link.ensures.more }
 
 pub returns-clause-kept : goal.returns-clause-kept
-returns-clause-kept g c = more_kept c.args.link.now c.keep.new.self _ _ c.keep.ensures.kept
+returns-clause-kept g c = inr (c.keep.ensures.kept ∙ ap₂ (keeps c.args.link.now) c.take_lists-drained.ensures.lists.0 c.take_lists-drained.ensures.lists.1)
 
 pub returns-then-rests-clause-noted : goal.returns-then-rests-clause-noted
 returns-then-rests-clause-noted g c = λ t. to_noted c.args.link.now c.args.ends.now c.args.passing.now t
