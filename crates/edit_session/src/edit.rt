@@ -103,7 +103,7 @@ fn cells_set(
     if cost > MAX_COST {
         return Err(SetFault::CostTooLarge);
     }
-    let mut cells = Vec::from_slice(alloc, old).map_err(NoMemory::from)?;
+    let mut cells = Vec::from_slice(alloc, old)?;
     cells[cell as usize] = cost;
     Ok(cells)
 }
@@ -128,7 +128,7 @@ fn cells_for(
     if exceed_cost(cells) {
         return Err(SetFault::CostTooLarge);
     }
-    Ok(Vec::from_slice(alloc, cells).map_err(NoMemory::from)?)
+    Ok(Vec::from_slice(alloc, cells)?)
 }
 
 /// Whether a cell is above [`MAX_COST`].

@@ -2,6 +2,7 @@
 
 use dcop_base::NoMemory;
 use pseudotree::Wide;
+use std::alloc::AllocError;
 
 /// Why a session is not opened.
 #[derive(Clone, Copy, Debug, PartialEq, Eq)]
@@ -19,6 +20,17 @@ impl From<NoMemory> for OpenFault {
     ghost from_gives = { λ _ e. e ≡ no_memory };
 
     fn from(_refused: NoMemory) -> Self {
+        OpenFault::NoMemory
+    }
+}
+
+impl From<AllocError> for OpenFault {
+    ghost use Rattle.std.specs.Prelude.{◌≡◌};
+    ghost use Rattle.edit_session.specs.declared.fault.OpenFault.TheVariants.{NoMemory as no_memory};
+
+    ghost from_gives = { λ _ e. e ≡ no_memory };
+
+    fn from(_refused: AllocError) -> Self {
         OpenFault::NoMemory
     }
 }
@@ -45,6 +57,17 @@ impl From<NoMemory> for SetFault {
     ghost from_gives = { λ _ e. e ≡ no_memory };
 
     fn from(_refused: NoMemory) -> Self {
+        SetFault::NoMemory
+    }
+}
+
+impl From<AllocError> for SetFault {
+    ghost use Rattle.std.specs.Prelude.{◌≡◌};
+    ghost use Rattle.edit_session.specs.declared.fault.SetFault.TheVariants.{NoMemory as no_memory};
+
+    ghost from_gives = { λ _ e. e ≡ no_memory };
+
+    fn from(_refused: AllocError) -> Self {
         SetFault::NoMemory
     }
 }

@@ -79,7 +79,7 @@ impl Session {
         let problem = &file.problem;
         let count = problem.sizes.as_slice().len();
         let top = top_sum(problem);
-        let touched = vec![in alloc; true; count].map_err(NoMemory::from)?;
+        let touched = vec![in alloc; true; count]?;
         let kept = nothing_kept(alloc, count)?;
         Ok(Session {
             alloc,
