@@ -1,5 +1,5 @@
 -- The words of `dcop_search`: what they ask for, or their first fault.
-use Rattle.std.specs.Prelude.{List, [], ◌∷◌, Result, Ok, unwrap_or}
+use Rattle.std.specs.Prelude.{ℕ, List, [], ◌∷◌, Result, Ok, unwrap_or}
 use Rattle.solve_words.specs.declared.command.Format.TheVariants.{Dcop}
 use Rattle.solve_words.specs.declared.fault.WordFault.{WordFault}
 use Rattle.program_frame.specs.Settings.{number_setting, format_setting, number_given, format_given}
