@@ -243,7 +243,7 @@ def definitions_page(sources: Sources) -> str:
         parts = [it.key.name for it in shown if not it.sentence]
         told.append("")
         if parts:
-            told.append(f"Parts and further cases of these: {', '.join(f'`{name}`' for name in parts)}.\n")
+            told.append(f"Cited too, each with the sentence of the definition above it in its file: {', '.join(f'`{name}`' for name in parts)}.\n")
         rest = [it.key.name for it in own if it.key not in sources.cited]
         if rest:
             told.append(f"Cited by no clause of a public call: {', '.join(f'`{name}`' for name in rest)}.\n")

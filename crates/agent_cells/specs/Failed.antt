@@ -8,7 +8,8 @@ use Rattle.worker_laws.specs.Cells.{CellState, peers, grown}
 use Rattle.worker_laws.specs.Visits.{IsFew, IsFrom}
 
 -- something was taken from the cell's peers, and the greatest of the cell's stamp and the taken
--- stamps is the last value of a stamp: the agent has made no step, and nothing was sent
+-- stamps is amount_limit, above which there is no stamp: the agent has made no step, and nothing
+-- was sent
 pub record HasReachedEnd (before after : CellState) : Type 0 where
   pub gains : List Gain
   pub senders : All (IsFrom (peers before.taken)) gains

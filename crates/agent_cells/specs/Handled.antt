@@ -19,8 +19,8 @@ pub record IsHandled (before : CellState) (letters : List (ℕ × Message)) (tak
   pub sent : after.sent ≡ grown (λ j. posted_to j (post after.stamp sends)) before.sent
   pub noted : after.journal ≡ before.journal ++ record { stamp = after.stamp; takes = takes } ∷ []
 
--- the greatest of the cell's stamp and the taken stamps is the last value of a stamp: the agent has
--- made no step, and nothing was sent
+-- the greatest of the cell's stamp and the taken stamps is amount_limit, above which there is no
+-- stamp: the agent has made no step, and nothing was sent
 pub record IsAtEnd (before : CellState) (greatest : ℕ) (after : CellState) : Type 0 where
   pub last : max before.stamp greatest ≡ amount_limit
   pub viewed : after.view ≡ before.view

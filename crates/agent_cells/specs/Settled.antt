@@ -42,6 +42,8 @@ pub record TailIsSettled (tails : List Tail) (to : ℕ) (head : LinkHead (ℕ ×
   pub settled : (k : ℕ) (t : Tail) → StandsAt tails k t → t.0 ≡ to → IsSettled t.1 head
   pub counted : (k : ℕ) (t : Tail) → StandsAt tails k t → t.0 ≡ to → count ≡ length (known_to head)
 
+-- if there is a head from this peer, it and this tail are settled, with `count` messages in the
+-- ring
 pub record HeadIsSettled (heads : List Head) (from : ℕ) (tail : LinkTail (ℕ × Message)) (count : ℕ) : Type 0 where
   pub settled : (k : ℕ) (h : Head) → StandsAt heads k h → h.0 ≡ from → IsSettled tail h.1
   pub counted : (k : ℕ) (h : Head) → StandsAt heads k h → h.0 ≡ from → count ≡ length (known_to h.1)

@@ -55,10 +55,11 @@ module _ {X : Type 0} {F : X → Type 0} where
     known = known_of c.heads.items;
   }
 
-  -- whether the cell has begun, and the fault that it returns from now on
+  -- whether the cell has begun
   abbrev pub begun_in : Cell X F → Bool
   begun_in c = c.begun
 
+  -- the fault that the cell returns from now on, if it has failed
   abbrev pub fault_in : Cell X F → Option VisitFault
   fault_in c = c.fault
 
@@ -66,13 +67,15 @@ module _ {X : Type 0} {F : X → Type 0} where
   abbrev pub visits_in : Cell X F → ℕ
   visits_in c = c.visits.count
 
-  -- its tails, and its heads
+  -- the tails of the cell
   abbrev pub tails_in : Cell X F → List Tail
   tails_in c = c.tails.items
 
+  -- the heads of the cell
   abbrev pub heads_in : Cell X F → List Head
   heads_in c = c.heads.items
 
+  -- the cell is sound: what it holds satisfies the invariant of a cell
   abbrev pub IsCell : (DynBox X Global F → View) → Cell X F → Type 0
   IsCell meaning c = IsSoundCell c.begun c.fault (state_of meaning c)
 

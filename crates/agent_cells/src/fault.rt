@@ -9,7 +9,7 @@ use dcop_base::NoMemory;
 pub enum VisitFault {
     /// Memory ran out.
     NoMemory,
-    /// The greatest of the cell's stamp and the taken stamps was `CAP`, the last value of a stamp.
+    /// The greatest of the cell's stamp and the taken stamps was `CAP`, the greatest stamp.
     StampEnd,
 }
 

@@ -1,4 +1,4 @@
-//! What all agents know of a problem, found in one pass over its tables and joints.
+//! What each agent knows of a problem, found in one pass over its tables and joints.
 //!
 //! [`acquaintances`] gives what each agent knows without the costs, and [`add_tables`] adds the
 //! tables that name its variable; [`privates`] does both. For one variable alone, `acquaintance`

@@ -36,6 +36,7 @@ pub record AreLinksIn (node : ℕ → ℕ) (lists : List (List ℕ)) (tails : Li
 abbrev pub one_node : ℕ → ℕ
 one_node agent = 0
 
+-- the ends of links of agents with these neighbours, which are all in one node
 abbrev pub AreLinks : List (List ℕ) → List (List Tail) → List (List Head) → Type 0
 AreLinks lists tails heads = AreLinksIn one_node lists tails heads
 

@@ -26,28 +26,29 @@ pub record HasGoneOn (before after : CellState) : Type 0 where
 
 module _ {X : Type 0} {F : X → Type 0} where
   -- a visit of the cell from this state has failed with this fault: its agent is still the one that
-  -- was made, and if stamps have ended, the visit has reached their end
+  -- was made, and if the fault is that stamps ran out, the visit has found the greatest stamp
   pub record HasFailedVisit (meaning : DynBox X Global F → View) (fault : VisitFault) (before : CellState) (after : Cell X F) : Type 0 where
     pub failed : fault_in after ≡ Some fault
     pub origin : made_of (state_of meaning after).view ≡ made_of before.view
     pub end : fault ≡ StampEnd → HasReachedEnd before (state_of meaning after)
 
   -- the cell is in this state and has not failed, or a visit from this state has failed; if `fault`
-  -- is the end of the stamps, so is the cell's own fault
+  -- is that stamps ran out, so is the cell's own fault
   abbrev pub StandsOrFails : (DynBox X Global F → View) → VisitFault → CellState → Cell X F → Type 0
   StandsOrFails meaning fault s c = ((state_of meaning c ≡ s) × (fault_in c ≡ None))
       ⊎ ((own : VisitFault) × (fault ≡ StampEnd → own ≡ StampEnd) × HasFailedVisit meaning own s c)
 
-  -- how many cells have failed
+  -- 1 if the cell has failed, and 0 if it has not
   abbrev pub failure : Cell X F → ℕ
   failure c = if is_some (fault_in c) then 1 else 0
 
+  -- how many of these cells have failed
   abbrev pub failures : List (Cell X F) → ℕ
   failures cells = sum_by failure cells
 
-  -- R holds of the state of each cell before and of a later one, with at most `limit` more messages
-  -- taken for each cell on average; from there each cell has not changed, or a visit of it has
-  -- failed; at most `most_failed` cells have failed
+  -- R holds of each cell's state before and of a later state; up to these states all cells together
+  -- took at most `limit` messages for each of them; since then each cell has not changed, or a
+  -- visit of it has failed; at most `most_failed` cells have failed
   pub record ArePartlyPlayed (meaning : DynBox X Global F → View) (fault : VisitFault) (R : CellState → CellState → Type 0) (limit most_failed : ℕ) (before : List CellState) (after : List (Cell X F)) : Type 0 where
     pub stood : List CellState
     pub gone : EachAre R before stood

@@ -38,7 +38,8 @@ abbrev pub AreBusy : List CellState → List (List CellState) → Type 0
 AreBusy before [] = Unit {0}
 AreBusy before (next ∷ rounds) = (all_ended before ≡ false) × (total before < total next) × AreBusy next rounds
 
--- the same, but the last round may have taken nothing
+-- each of these rounds began with an agent that had not ended, and each but the last took
+-- something; the list has the cells after each round
 abbrev pub AreDue : List CellState → List (List CellState) → Type 0
 AreDue before [] = Unit {0}
 AreDue before (next ∷ rounds) = (all_ended before ≡ false) × (rounds ≢ [] → total before < total next) × AreDue next rounds

@@ -13,10 +13,11 @@ use Rattle.agent_cells.specs.declared.fault.VisitFault.{VisitFault}
 use Rattle.agent_cells.specs.State.{state_of, fault_in}
 use Rattle.agent_workers.specs.Joined.{states_of, EachBecomes, HasBegun, IsSameCell}
 
--- the most messages that one visit of a cell takes, and the most that a round takes for one cell
+-- the most messages that one visit of a cell takes
 abbrev pub visit_limit : ℕ
 visit_limit = link_share * variable_limit
 
+-- the most messages that one round takes for one cell
 abbrev pub sprint_limit : ℕ
 sprint_limit = most_events * visit_limit
 

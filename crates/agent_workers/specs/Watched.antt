@@ -82,11 +82,11 @@ module _ {X : Type 0} {F : X → Type 0} where
         → IsVisitedOnce meaning a b ⊎ ((b ≡ a) × (all ≡ true → (alone ≡ true) × KnowsOfNone meaning a) × (all ≡ false → IsUnmarked words i)
         × (sent_to meaning i (found_at i before now) ≡ sent_to meaning i before))
 
-  -- a turn from `before` to `after`, which follows a turn from `earlier` to `before`, with as many
-  -- cells; the first turn follows none, and `earlier` is `before`. Each cell was visited once, unless
-  -- it had ended. Or the part is `alone`, since it has all cells, and the cell was passed over: it
-  -- knew of nothing, and was sent nothing since the turn before came to its place, or, in the first
-  -- turn, since the beginning.
+  -- a turn from `before` to `after`, which have as many cells. It follows a turn from `earlier` to
+  -- `before`; the first turn follows none, and `earlier` is then `before`. Each cell was visited
+  -- once, unless it had ended. Or the cell was passed over, which happens only in a part that is
+  -- `alone`, since it has all cells: the cell knew of nothing, and was sent nothing since the turn
+  -- before came to its place (in the first turn: since that turn began).
   pub record PassesNone (meaning : DynBox X Global F → View) (alone : Bool) (earlier before after : List (Cell X F)) : Type 0 where
     pub size : length after ≡ length before
     pub each : (i : ℕ) (a b : Cell X F) → slice_get before i ≡ Some a → slice_get after i ≡ Some b
@@ -100,10 +100,10 @@ module _ {X : Type 0} {F : X → Type 0} where
   AreTurns meaning alone (suc turns) first earlier now = (before : List (Cell X F)) × AreTurns meaning alone turns first before earlier
       × (0 < turns → total (states_of meaning before) < total (states_of meaning earlier)) × PassesNone meaning alone before earlier now
 
-  -- a part was played in turns, at most 32; each but the last took something, and if there are fewer
-  -- than 32, the last took nothing. Each turn visits each cell that has not ended once. Only a part
-  -- that has all cells passes over some: those that know of nothing, and were sent nothing in the
-  -- first turn, or in a later one since the turn before came to them.
+  -- a part was played in turns, at most 32; each but the last took something, and if there are
+  -- fewer than 32, the last took nothing. Each turn visits each cell that has not ended once. Only
+  -- a part that has all cells passes over some: those that know of nothing, and were sent nothing
+  -- since the turn before came to them (in the first turn: since that turn began).
   pub record IsPlayedInTurns (meaning : DynBox X Global F → View) (alone : Bool) (first last : List (Cell X F)) : Type 0 where
     pub turns : ℕ
     pub earlier : List (Cell X F)

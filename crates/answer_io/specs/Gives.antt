@@ -1,5 +1,5 @@
--- What reading an input gives, as the code gives it, against what the input is read as. Running out
--- of memory promises nothing.
+-- What reading an input gives, as the code gives it, against what the input is read as. If memory
+-- runs out, nothing is promised.
 use Rattle.std.specs.Prelude.{◌≡◌, Result, Ok, Err}
 use Rattle.problem_text.specs.Kinds.{number_of_text, number_of_problem}
 use Rattle.problem_text.specs.Reading.{Parts}
@@ -27,8 +27,8 @@ abbrev pub fault_of_wcsp : WcspFault → InputFault
 fault_of_wcsp (wcsps.Bad line kind) = Wcsp line kind
 fault_of_wcsp wcsps.NoMemory = NoMemory
 
--- this fault refuses the input with the answer that the input is read as; running out of memory
--- promises nothing
+-- the input is read as a refusal, and this fault gives that answer; if memory runs out, nothing is
+-- promised
 abbrev pub IsInputRefused : {A : Type 0} → Result A Answer → InputFault → Type 0
 IsInputRefused outcome (Text line kind) = outcome ≡ Err (ProblemText line (number_of_text kind) (number_of_problem kind))
 IsInputRefused outcome (Wcsp line kind) = outcome ≡ Err (WcspText line (number_of_kind kind) (number_of_wcsp_problem kind))

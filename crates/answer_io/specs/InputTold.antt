@@ -18,7 +18,7 @@ pub record DeclaredInput : Type 0 where
   pub declared : Declared
   pub bar : Option ℕ
 
--- what was read if it is this file with this bar
+-- this file with this bar, as a problem that was read
 abbrev pub told_of : TextFile → Option ℕ → DeclaredInput
 told_of file bar = record { declared = declared_by file; bar = bar }
 
@@ -34,7 +34,7 @@ declared_of w = record {
   tables = tables w;
 }
 
--- what was read if it is this network
+-- this network, as a problem that was read
 abbrev pub told_by : Network → DeclaredInput
 told_by w = record { declared = declared_of w; bar = Some (bar w) }
 

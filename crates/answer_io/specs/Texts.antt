@@ -1,4 +1,4 @@
--- What reading a whole input gives, as the code gives it. Running out of memory promises nothing.
+-- What reading a whole input gives, as the code gives it. If memory runs out, nothing is promised.
 use Rattle.std.specs.Prelude.{◌≡◌, ℕ, List, Result, Ok, Err}
 use Rattle.problem_text.specs.File.{TextFile}
 use Rattle.problem_text.specs.Steps.{declared_by}

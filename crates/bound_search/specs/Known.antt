@@ -13,13 +13,13 @@ pub record IsKnown (p : Dcop) (known : Known) : Type 0 where
   pub many : length known.values ≡ length p.sizes
   pub found : known.found ≡ true → AreValuesFound p known
 
--- equally good or better; nothing known is the worst
+-- a best known cost is as good as another or better; nothing known is the worst
 abbrev pub IsNoWorse : Option ℕ → Option ℕ → Type 0
 IsNoWorse new None = Unit {0}
 IsNoWorse None (Some old) = ⊥
 IsNoWorse (Some new) (Some old) = new ≤ old
 
--- strictly better; nothing known is the worst
+-- a best known cost is strictly better than another; nothing known is the worst
 abbrev pub IsBelow : Option ℕ → Option ℕ → Type 0
 IsBelow None old = ⊥
 IsBelow (Some new) None = Unit {0}

@@ -15,7 +15,9 @@ least (x ∷ xs) = fold min x xs
 abbrev pub least_cost : List CostTable → ℕ
 least_cost ts = sum_by (λ t. least t.cells) ts
 
--- what is sent of projections, with room for this many cells: those with variables unchanged, except the largest, none of which fits; the least cells of these are added up, with the only cells of those without variables
+-- what is sent of projections, with room for this many cells: those that name variables, unchanged,
+-- except the largest ones, none of which would fit as well; the least cells of these, and the only
+-- cells of those that name no variable, are added up
 pub record AreProjectionsKept (room : ℕ) (projections sent : List CostTable) (fixed replaced : ℕ) : Type 0 where
   pub closed : List CostTable
   pub large : List CostTable

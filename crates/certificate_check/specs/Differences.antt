@@ -57,7 +57,7 @@ table_difference sizes own children u = first_of (cell_difference sizes own chil
 abbrev pub cells_difference : Dcop → List (List ℕ) → List Util → ℕ → Option Differs
 cells_difference p paths utils i = table_difference p.sizes (tables_on_path p paths i) (children_told paths utils i) (told utils i)
 
--- the difference of a printed number, on the left, that is not the right one
+-- the difference if a printed number, on the left, is not the right one, on the right
 abbrev pub unless_same : (ℕ → ℕ → Differs) → ℕ → ℕ → Option Differs
 unless_same differs left right = if left == right then None else Some (differs left right)
 

@@ -47,7 +47,7 @@ pub fn write_report(alloc: Global, report: &Report, file: &ProblemFile) -> Resul
 }
 
 impl Ending {
-    /// The word for the ending: `solved` or `spent`.
+    /// The word for the ending, `solved` or `spent`.
     pub fn word(self) -> &'static str
         ensures { result.now ≡ ending_word self }
     {
@@ -59,7 +59,7 @@ impl Ending {
 }
 
 impl Method {
-    /// The word for the method: `plain`, `dpop`, `adopt` or `cut`.
+    /// The word for the method, `plain`, `dpop`, `adopt` or `cut`.
     pub fn word(self) -> &'static str
         ensures { result.now ≡ method_word self }
     {

@@ -76,7 +76,7 @@ cut-refused p tree limit keep cut fault law problem is few h refused = record {
   refused = λ other g. subst (λ (c : List ℕ). IsCutRefusal p tree.paths c keep fault) ((law p tree.paths limit problem is.pseudotree few).one cut other h g) refused;
 }
 
--- want of memory refuses any
+-- running out of memory refuses any
 pub memory-refuses : (p : Dcop) (paths : List (List ℕ)) (limit : ℕ) (keep : Bool) → IsCutRefused p paths limit keep NoMemory
 memory-refuses p paths limit keep = record { refused = λ cut h. tt }
 

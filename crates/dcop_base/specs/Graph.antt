@@ -5,7 +5,7 @@ use Rattle.std.specs.List.Sorted.{IsStrictlyIncreasing}
 use Rattle.dcop_base.specs.Table.{CostTable, has}
 use Rattle.dcop_base.specs.Problem.{Dcop}
 
--- whether a table names both variables
+-- whether some table names both variables
 abbrev pub share_table : List CostTable → ℕ → ℕ → Bool
 share_table tables u v = list_any (λ t. has t.scope u && has t.scope v) tables
 

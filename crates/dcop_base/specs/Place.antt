@@ -2,7 +2,8 @@
 use Rattle.std.specs.Prelude.{◌≡◌, ℕ, ◌<◌, List, length, slice_index}
 use Rattle.dcop_base.specs.Table.{AreWithin}
 
--- for each of `count` variables, any pair that `tells` allows is the size and the value of the variable in these lists
+-- sizes and values of `count` variables, each value below its size; for variable k, any pair that
+-- `tells` allows is its size and its value
 pub record AreDigits (tells : ℕ → ℕ × ℕ → Type 0) (count : ℕ) (sizes : List ℕ) (values : List ℕ) : Type 0 where
   pub counted : length sizes ≡ count
   pub within : AreWithin sizes values

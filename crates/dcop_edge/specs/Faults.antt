@@ -5,7 +5,7 @@ use Rattle.dcop_edge.specs.declared.fault.Failed.{Failed}
 use Rattle.dcop_edge.specs.declared.fault.ReadFault.{ReadFault}
 use Rattle.dcop_edge.specs.declared.fault.ReadFault.TheVariants as read_faults
 
--- a count rose in a call: it is greater than at the start, or it is at its last value
+-- a count rose in a call: it is greater than at the start, or it is at its limit, count_limit
 abbrev pub Rose : ℕ → ℕ → Type 0
 Rose old new = (old < new) ⊎ (new ≡ count_limit)
 
@@ -20,6 +20,6 @@ HasReadCause old new (Ok value) = new ≡ old
 HasReadCause old new (Err read_faults.Failed) = (old ≤ new) × Rose old new
 HasReadCause old new (Err read_faults.NoMemory) = new ≡ old
 
--- a count increased by one; it stays at its last value
+-- a count increased by one, but at most count_limit
 abbrev pub one_more : ℕ → ℕ
 one_more count = min (count + 1) count_limit

@@ -6,7 +6,7 @@ ghost use Rattle.dcop_edge.specs.Memory.{kept_whole, held_within};
 ghost use Rattle.dcop_edge.specs.Sink.{Adds};
 
 /// The bytes that were written to a sink in memory. From the first write that is not kept, bytes
-/// are only counted, in a counter that stops at its last value.
+/// are only counted, in a counter that stops at its limit.
 #[derive(Drop)]
 pub(crate) struct Kept {
     pub(crate) bytes: Vec<u8>,

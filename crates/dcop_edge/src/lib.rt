@@ -2,10 +2,10 @@
 //!
 //! A [`Source`] gives bytes and a [`Sink`] takes them. For proofs alone, each states what it holds,
 //! if that is known, and counts its faults: a call returns [`Failed`] only if the count rose or is
-//! at its last value. Code that reads and writes is therefore proved over any source and sink.
-//! There are sources and sinks in memory that fail at chosen calls, and others that never fail.
-//! [`StdSource`] and [`StdSink`] are the real ones. Contracts say nothing of their bytes, only how
-//! many each read gave, whether the sink is finished, and their counts of faults.
+//! at its limit. Code that reads and writes is therefore proved over any source and sink. There are
+//! sources and sinks in memory that fail at chosen calls, and others that never fail. [`StdSource`]
+//! and [`StdSink`] are the real ones. Contracts say nothing of their bytes, only how many each read
+//! gave, whether the sink is finished, and their counts of faults.
 #![tactic(auto)]
 
 mod counts;

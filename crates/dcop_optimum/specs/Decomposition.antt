@@ -32,7 +32,7 @@ pub record Decomposes (p : Dcop) (paths : List (List ℕ)) : Type 0 where
       → (m : ℕ) → IsSubtreeOptimum p paths i value m ↔ IsLeastBelow (slice_index p.sizes i) (best_cost_at p paths i value optima) m
   pub at_root : (root : ℕ) (value : ℕ → ℕ) → IsRoot paths root → (m : ℕ) → IsSubtreeOptimum p paths root value m ↔ IsOptimum p m
 
--- the decomposition law: it holds in every pseudotree of every problem
+-- the decomposition law: what `Decomposes` says holds in every pseudotree of every problem
 abbrev pub DecompositionLaw : Type 0
 DecompositionLaw = (p : Dcop) (paths : List (List ℕ)) → IsProblem p → IsPseudotree p paths → Decomposes p paths
 

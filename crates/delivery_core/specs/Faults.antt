@@ -19,8 +19,8 @@ pub record FirstFault (net : Network) (es : List Event) (at : ℕ) (fault : Even
   pub unlawful : event_fault middle event ≡ Some fault
 
 -- what a replay returns: a core state that is the network state at the end of the run of these
--- events; or a fault of the first unlawful event, with its number, counted from 1; out of memory
--- says nothing of the events
+-- events; or the number, counted from 1, of the first event that is not lawful, and its fault; if
+-- memory runs out, nothing is said of the events
 abbrev pub Replays : Network → List Event → Result CoreView ReplayFault → Type 0
 Replays net es (Ok s) = (end : Network) × (run net es ≡ Some end) × IsStateOf end s
 Replays net es (Err (BadEvent at fault)) = (place : ℕ) × (at ≡ place + 1) × FirstFault net es place fault

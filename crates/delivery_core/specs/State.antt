@@ -18,6 +18,7 @@ pub record CoreView : Type 0 where
   pub seats : List SeatView
   pub delivered : ℕ
 
+-- what an agent was sent, by sender; nothing if there is no agent
 abbrev pub inbox_of : Option SeatView → List LinkView
 inbox_of None = []
 inbox_of (Some x) = x.inbox
@@ -30,6 +31,7 @@ inbox_at seats i = inbox_of (slice_get seats i)
 abbrev pub count_waiting : CoreView → ℕ → ℕ → ℕ
 count_waiting s to from = length (waiting_from (inbox_at s.seats to) from)
 
+-- the message of a letter, if there is one
 abbrev pub message_of : Option (ℕ × Message) → Option Message
 message_of None = None
 message_of (Some l) = Some l.1
@@ -46,14 +48,17 @@ views_of seats = map (λ x. x.view) seats
 abbrev pub view_at : CoreView → ℕ → Option View
 view_at s i = slice_get (views_of s.seats) i
 
+-- the place that a token agent found, if there is such an agent and it has ended
 abbrev pub place_in : Option View → Option Place
 place_in None = None
 place_in (Some v) = place_of v
 
+-- the context of an ADOPT agent, if there is such an agent
 abbrev pub context_in : Option View → Option Context
 context_in None = None
 context_in (Some v) = context_of v
 
+-- the UTIL table that a DPOP agent made, if there is such an agent and it has made one
 abbrev pub table_in : Option View → Option CostTable
 table_in None = None
 table_in (Some v) = table_of v

@@ -85,7 +85,7 @@ impl DpopAgent {
         })
     }
 
-    /// The UTIL table that the agent made; `None` exactly if it has not joined.
+    /// The UTIL table that the agent made; `None` exactly if it has not joined its tables.
     pub fn into_table(self) -> Option<Table>
         ensures { result ≡ self.made }
     {

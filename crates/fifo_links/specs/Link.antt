@@ -7,10 +7,11 @@ use Rattle.fifo_links.specs.declared.ends.LinkHead.{LinkHead}
 use Rattle.fifo_links.specs.Slots.{ring_slots}
 
 module _ {T : Type 0} where
-  -- what entered the ring, and what waits in the backlog, oldest first
+  -- what entered the ring, oldest first
   abbrev pub entered_by : LinkTail T → List T
   entered_by t = sent t.ring
 
+  -- what waits in the backlog, oldest first
   abbrev pub backlog_of : LinkTail T → List T
   backlog_of t = t.backlog.items
 
@@ -34,10 +35,11 @@ module _ {T : Type 0} where
   abbrev pub AreEnds : LinkTail T → LinkHead T → Type 0
   AreEnds t h = IsPair t.ring h.ring
 
-  -- an end before and after a call: the same end of the same link
+  -- a tail before and after a call: the same end of the same link
   abbrev pub SameTail : LinkTail T → LinkTail T → Type 0
   SameTail a b = SameProducer a.ring b.ring
 
+  -- a head before and after a call: the same end of the same link
   abbrev pub SameHead : LinkHead T → LinkHead T → Type 0
   SameHead a b = SameConsumer a.ring b.ring
 

@@ -1,6 +1,6 @@
 -- The ring of a link.
 use Rattle.std.specs.Prelude.{ℕ}
 
--- how many items it holds
+-- how many items a ring holds
 abbrev pub ring_slots : ℕ
 ring_slots = 64

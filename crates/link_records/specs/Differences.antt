@@ -5,7 +5,7 @@ use Rattle.dcop_base.specs.Limits.{count_limit}
 use Rattle.protocol_steps.specs.declared.message.Message.{Message}
 use Rattle.worker_laws.specs.Wires.{Passage, Wire, IsSame, HasHeld}
 
--- before this position two lists are the same, and at it they differ; one of them may be over there
+-- before this position two lists are the same, and at it they differ; one of them may end there
 pub record DifferAt (drained arrived : List (ℕ × Message)) (place : ℕ) : Type 0 where
   pub same : take place arrived ≡ take place drained
   pub differ : slice_get arrived place ≢ slice_get drained place

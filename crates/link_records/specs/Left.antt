@@ -6,8 +6,8 @@ use Rattle.worker_laws.specs.Wires.{Wire, HasHeld}
 abbrev pub fresh_link : ℕ → ℕ → Wire
 fresh_link from to = record { receiver = to; sender = from; passages = [] }
 
--- a link from one agent to another that differs has become a new one, and every other link is as it
--- was
+-- the link from one agent to another, which differs, has become a new one, and every other link is
+-- as it was
 pub record IsRenewed (before : List Wire) (from to : ℕ) (after : List Wire) : Type 0 where
   pub link : ℕ
   pub wire : Wire

@@ -45,7 +45,7 @@ impl Model for KeptLink {
 
 /// The first place at which the envelopes that arrived on a link are not those that were drained in
 /// the same exchange: the agents at its ends, the position on the link, and the two envelopes
-/// there. If one of the exchange's two lists is over there, its envelope is `None`.
+/// there. If one of the exchange's two lists ends there, its envelope is `None`.
 #[derive(Drop)]
 pub struct LinkDifference {
     /// The agent that sends on the link.

@@ -44,7 +44,7 @@ impl KeptPassage {
         self.arrived.as_slice()
     }
 
-    /// Takes the envelopes at this position out of the two lists; `None` if a list is over there.
+    /// Takes the envelopes at this position out of the two lists; `None` if a list ends there.
     pub(crate) fn take_out(&mut self, place: usize) -> (Option<Envelope>, Option<Envelope>)
         ensures drained { result.0 ≡ slice_get self.old.drained place }
         ensures arrived { result.1 ≡ slice_get self.old.arrived place }

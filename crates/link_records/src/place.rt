@@ -6,7 +6,7 @@ ghost use Rattle.link_records.specs.Differences.{DifferAt};
 use crate::same::is_same;
 use protocol_steps::Envelope;
 
-/// The first position at which two lists differ; one of them may be over there.
+/// The first position at which two lists differ; one of them may end there.
 pub(crate) fn place_of(drained: &[Envelope], arrived: &[Envelope]) -> Option<usize>
     ensures { MatchOption result (arrived.now ≡ drained.now) (λ k. DifferAt drained.now arrived.now k) }
 {
@@ -19,7 +19,7 @@ pub(crate) fn place_of(drained: &[Envelope], arrived: &[Envelope]) -> Option<usi
     None
 }
 
-/// Whether two lists have the same envelope at a position, or are both over there.
+/// Whether two lists have the same envelope at a position, or neither has one.
 fn are_same_at(drained: &[Envelope], arrived: &[Envelope], place: usize) -> bool
     ensures { (result ≡ true) ↔ (slice_get arrived.now place ≡ slice_get drained.now place) }
 {

@@ -76,8 +76,8 @@ pub record AreNotes (p : Dcop) (made : List View) (es : List Event) (net : Netwo
 abbrev pub MayBeNotes : Dcop → List View → List Event → Network → Option NotesView → Type 0
 MayBeNotes p made es net notes = IfSome notes (AreNotes p made es net)
 
--- notes are kept as before; if they were those of a run to a network, they are those of the same
--- run with these events behind it
+-- notes are kept as before; if they were those of a run to a network, they are now those of the
+-- same run followed by these events
 abbrev pub KeepNotes : Dcop → Network → List Event → Option NotesView → Option NotesView → Type 0
 KeepNotes p net es old new =
     (is_some new ≡ is_some old)

@@ -99,7 +99,8 @@ impl Notes {
     }
 }
 
-/// The notes where all agents of a problem have started, exactly when a log is requested.
+/// The notes of a state in which all agents of a problem have just started; `None` exactly if no
+/// log is requested.
 ///
 /// # Errors
 ///

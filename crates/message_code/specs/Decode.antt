@@ -28,7 +28,7 @@ pub record IsEnvelope (e : ℕ × Message) : Type 0 where
   pub message : IsInRange e.1
   pub context : HasContext e.1
 
--- a refusal gives the first bad position of the bytes; one for lack of memory says nothing
+-- a refusal gives the first bad position of the bytes; if memory runs out, nothing is said of them
 abbrev pub IsFault : List ℕ → DecodeFault → Type 0
 IsFault bytes (Bad place) = bad_place bytes ≡ Some place
 IsFault bytes NoMemory = Unit {0}

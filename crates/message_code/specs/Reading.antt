@@ -15,7 +15,7 @@ pub record IsRefused {N : Type 0} (form : N → Form) (bytes : List ℕ) (left :
   pub within : left ≤ length bytes
   pub place : (next : N) (before place : ℕ) → place + left ≡ before + length bytes → first_fault (form next) before bytes ≡ Some place
 
--- why a part was not read: the first fault, or lack of memory, which says nothing
+-- why a part was not read: the first fault, or that memory ran out, which says nothing
 abbrev pub Stopped : {N : Type 0} → (N → Form) → List ℕ → Stop → Type 0
 Stopped form bytes (stops.Bad left) = IsRefused form bytes left
 Stopped form bytes stops.NoMemory = Unit {0}

@@ -44,12 +44,12 @@ abbrev pub played : Network → List LogEvent → Network
 played net [] = net
 played net (e ∷ log) = played (effect net (event_of e)) log
 
--- the standing of an agent; all zero without an upper bound if there is no agent
+-- the bounds and the threshold of an agent; 0, none and 0 if there is no agent
 abbrev pub standing_at : Option View → Standing
 standing_at None = record { lower = 0; upper = None; threshold = 0 }
 standing_at (Some v) = standing_of v
 
--- the standing of agent 0, the root of the depth-first tree
+-- the bounds and the threshold of agent 0, the root of the depth-first tree
 abbrev pub root_standing : Network → Standing
 root_standing net = standing_at (slice_get net.views 0)
 
@@ -60,7 +60,7 @@ status_difference true Spent = Some (Status Spent)
 status_difference false Solved = Some (Status Solved)
 status_difference false Spent = None
 
--- the difference of a printed number, on the left, that is not the right one
+-- the difference if a printed number, on the left, is not the right one, on the right
 abbrev pub unless_right : (ℕ → ℕ → Differs) → ℕ → ℕ → Option Differs
 unless_right differs left right = if left == right then None else Some (differs left right)
 
@@ -81,7 +81,7 @@ error_difference Solved error gap = if nat_lt error gap then Some (Error error g
 error_difference Spent error gap = None
 
 -- the first difference of the numbers: the cost must be that of the values, and the bounds must be
--- those of the root's standing and of the values' cost
+-- those of the root's agent and of the values' cost
 abbrev pub bound_difference : TextFile → Standing → Report → Option Differs
 bound_difference f top r =
     let least : ℕ = least_known (cost (problem_solved f) r.values) top.upper in

@@ -37,8 +37,8 @@ IsByteFault nodes ps Failed = Unit {0}
 IsByteFault nodes ps (Bytes from_node to_node place sent taken) = IsByteBetween nodes ps from_node to_node place sent taken
 IsByteFault nodes ps NoMemory = Unit {0}
 
--- the dialer's count of faults rose, or is at its last value, if the fault is `Failed`, and else
--- stayed as it was
+-- if the fault is `Failed`, the dialer's count of faults rose, or is at its limit; else it stayed
+-- as it was
 abbrev pub HasPassCause : {T : Type 0} → ℕ → ℕ → Result T PassFault → Type 0
 HasPassCause old new (Ok value) = new ≡ old
 HasPassCause old new (Err Failed) = (old ≤ new) × Rose old new

@@ -29,19 +29,21 @@ emptied p = record { from = p.from; to = p.to; from_node = p.from_node; to_node 
 abbrev pub leads : ℕ → ℕ → Passing → Bool
 leads from_node to_node p = p.from_node == from_node && p.to_node == to_node
 
--- the letters that were drained of a link, and their frames; none if the link does not lead from
--- the one node to the other
+-- the letters that were drained of a link; none if the link does not lead from the one node to the
+-- other
 abbrev pub letters_on : ℕ → ℕ → Passing → List Addressed
 letters_on from_node to_node p = if leads from_node to_node p then map (letter p.from p.to) p.drained else []
 
+-- the frames of the letters that were drained of a link; none if the link does not lead from the
+-- one node to the other
 abbrev pub frames_on : ℕ → ℕ → Passing → List ℕ
 frames_on from_node to_node p = if leads from_node to_node p then flat_map (λ e. framed (payload_code p.from p.to e)) p.drained else []
 
--- the letters that were drained of all links from one node to another, link by link, and their
--- frames
+-- the letters that were drained of all links from one node to another, link by link
 abbrev pub letters_of : ℕ → ℕ → List Passing → List Addressed
 letters_of from_node to_node ps = flat_map (letters_on from_node to_node) ps
 
+-- the frames of the letters that were drained of all links from one node to another, link by link
 abbrev pub frames_of : ℕ → ℕ → List Passing → List ℕ
 frames_of from_node to_node ps = flat_map (frames_on from_node to_node) ps
 
@@ -102,10 +104,11 @@ pub record HaveCome (first second : ℕ) (ps : List Passing) : Type 0 where
   pub there : (k : ℕ) (p : Passing) → slice_get ps k ≡ Some p → p.from_node < p.to_node → HasComeOn first second p.from_node p.to_node p
   pub back : (k : ℕ) (p : Passing) → slice_get ps k ≡ Some p → p.to_node < p.from_node → HasComeOn first second p.to_node p.from_node p
 
--- nothing has arrived on any link; or exactly what was drained has arrived on each
+-- nothing has arrived on any link
 abbrev pub NothingCame : List Passing → Type 0
 NothingCame ps = (k : ℕ) (p : Passing) → slice_get ps k ≡ Some p → p.arrived ≡ []
 
+-- exactly what was drained has arrived on each link
 abbrev pub AllCame : List Passing → Type 0
 AllCame ps = (k : ℕ) (p : Passing) → slice_get ps k ≡ Some p → p.arrived ≡ p.drained
 

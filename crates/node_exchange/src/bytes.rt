@@ -44,7 +44,7 @@ pub(crate) fn other_byte(
     })
 }
 
-/// The first position at which two lists of bytes differ; one of them may be over there.
+/// The first position at which two lists of bytes differ; one of them may end there.
 fn first_other(went: &[u8], came: &[u8]) -> Option<usize>
     ensures { MatchOption result (came.now ≡ went.now) (IsFirstOther went.now came.now) }
 {
@@ -57,7 +57,7 @@ fn first_other(went: &[u8], came: &[u8]) -> Option<usize>
     None
 }
 
-/// Whether two lists of bytes have the same byte at a position, or are both over there.
+/// Whether two lists of bytes have the same byte at a position, or neither has one.
 fn are_same_at(went: &[u8], came: &[u8], place: usize) -> bool
     ensures { (result ≡ true) ↔ (slice_get came.now place ≡ slice_get went.now place) }
 {

@@ -9,8 +9,8 @@ use Rattle.program_frame.specs.Questions.{IsRefusal}
 use Rattle.program_frame.specs.declared.reply.Reply.{Reply}
 use Rattle.program_frame.specs.declared.reply.Reply.TheVariants.{Own, Refused}
 
--- a program: what words ask of it; its replies to a whole input; the inputs that it accepts; and the
--- statuses of its own texts
+-- a program: what words ask of it; its replies to a whole input; the inputs that it accepts; and
+-- the statuses of its own texts, those that are no refusals
 pub record Program (A : Type 0) : Type 1 where
   pub asked : List (List ℕ) → Result A WordFault
   pub replies : A → List ℕ → Reply → Type 0

@@ -10,14 +10,14 @@ use Rattle.answer_io.specs.Input.{Input, Unread, Broken, TooLong, Whole, SourceS
 use Rattle.program_frame.specs.declared.question.Question.{Question}
 use Rattle.program_frame.specs.declared.question.Question.TheVariants.{Text, Refused}
 
--- how an input is refused that was not read whole
+-- how an input that was not read whole is refused
 abbrev pub IsInputRefusal : Input → Answer → Type 0
 IsInputRefusal Unread refusal = ⊥
 IsInputRefusal Broken refusal = refusal ≡ answers.Read
 IsInputRefusal TooLong refusal = refusal ≡ answers.ProblemText 0 9 0
 IsInputRefusal (Whole bytes) refusal = ⊥
 
--- how words are refused, or such an input
+-- how words are refused, or an input that was not read whole
 abbrev pub IsRefusal : {A : Type 0} → Result A WordFault → Input → Answer → Type 0
 IsRefusal (Ok asked) input refusal = IsInputRefusal input refusal
 IsRefusal (Err (words.Bad at kind)) input refusal = (input ≡ Unread) × (refusal ≡ answers.Words at (number_of_words kind))
@@ -29,12 +29,13 @@ pub record IsRefusedBy {A : Type 0} (asked : Result A WordFault) (before after :
   pub read : IsReadFrom input before after
   pub refused : IsRefusal asked input refusal
 
--- the question that follows from what words ask for, or from their fault
+-- what a program has to answer, given what words ask for or their fault: what they ask for, with
+-- the whole input, or a refusal of the words or of the input
 abbrev pub IsQuestion : {A : Type 0} → Result A WordFault → SourceState → SourceState → Question A → Type 0
 IsQuestion asked before after (Text same bytes) = (asked ≡ Ok same) × IsReadFrom (Whole bytes) before after
 IsQuestion asked before after (Refused refusal) = IsRefusedBy asked before after refusal
 
--- a refusal of a question has a text
+-- if what a program has to answer is a refusal, the refusal has a text
 abbrev pub IsPlain : {A : Type 0} → Question A → Type 0
 IsPlain (Text asked bytes) = Unit {0}
 IsPlain (Refused refusal) = HasText refusal

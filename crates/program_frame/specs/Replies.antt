@@ -20,7 +20,8 @@ abbrev pub reply_status : Reply → Status
 reply_status (Own text status) = status
 reply_status (Refused refusal) = status_of refusal
 
--- a reply can be shown: a refusal has a text, and no text of its own ends with want of memory
+-- a reply can be shown: it is a refusal that has a text, or a text of the program's own with any
+-- status but `NoMemory`
 abbrev pub IsShowable : Reply → Type 0
 IsShowable (Own text status) = status ≢ statuses.NoMemory
 IsShowable (Refused refusal) = HasText refusal

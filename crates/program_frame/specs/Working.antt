@@ -18,7 +18,8 @@ pub record Replies {A : Type 0} (p : Program A) (words : List (List ℕ)) (sourc
 
 -- a call of a program on these words. Its source had and has these states, and its sink these
 -- states and counts of faults. Unless memory runs out, it replies. A status of a failed reading or
--- writing comes only if the source or the sink failed, and if one failed, the status tells so.
+-- writing comes only if the source or the sink failed. If the source failed, the status is one of
+-- these two, or memory ran out; if the sink failed, the status is that of a failed writing.
 -- Accepted words and an accepted text, over a source and a sink that do not fail, get a text of the
 -- program's own, unless memory runs out
 pub record Works {A : Type 0} (p : Program A) (words : List (List ℕ)) (source source' : SourceState) (sink sink' : SinkState) (faults faults' : ℕ) (status : Status) : Type 0 where

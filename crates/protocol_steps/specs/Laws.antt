@@ -19,18 +19,20 @@ pub record OriginsStay : Type 0 where
 abbrev pub IsParentBeside : List ℕ → List ℕ → Type 0
 IsParentBeside neighbours path = (parent : ℕ) → last_of path ≡ Some parent → Contains neighbours parent
 
--- the parent and the children of an agent are among its neighbours; nothing is asked of an ADOPT agent
+-- the parent of a token agent, and the parent and the children of a DPOP agent, are among its
+-- neighbours; nothing is asked of an ADOPT agent
 abbrev pub IsBeside : View → Type 0
 IsBeside (TokenKind v) = IsParentBeside v.own.neighbours v.path
 IsBeside (DpopKind v) = IsParentBeside v.own.neighbours v.place.path × All (Contains v.own.neighbours) v.place.children
 IsBeside (AdoptKind v) = Unit {0}
 
--- after a start or a step the parent and the children are still among the neighbours, and each parcel goes to a neighbour
+-- after a start or a step what `IsBeside` says holds again, and each parcel goes to a neighbour
 pub record ReachesNeighbours (before : View) (s : Stepped View) : Type 0 where
   pub beside : IsBeside s.view
   pub receivers : All (IsToNeighbour before) s.sends
 
--- each parcel of a start or a step goes to a neighbour that the view names, if the parent and the children are neighbours and each letter comes from a neighbour
+-- each parcel of a start or a step goes to a neighbour that the view names, if what `IsBeside` says
+-- holds of the view and each letter comes from a neighbour
 pub record ParcelsGoToNeighbours : Type 0 where
   pub started : (v : View) → IsBeside v → ReachesNeighbours v (start_of v)
   pub stepped : (v : View) (ls : List (ℕ × Message)) → IsBeside v → All (IsToNeighbour v) ls → ReachesNeighbours v (step_of v ls)

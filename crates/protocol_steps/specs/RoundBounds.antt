@@ -12,7 +12,9 @@ use Rattle.protocol_steps.specs.Rounds.{most_events, link_share, TakeShares, Are
 abbrev pub round_share : ℕ → ℕ
 round_share n = (link_share * n) * (most_events * n)
 
--- the events of rounds take at most 64 messages from one sender, and so do those of every run with the same journals; rounds from a start take no more messages than the budget plus those of one round
+-- each event of rounds takes at most 64 messages from any one sender, and so does each event of
+-- every run with the same journals; rounds from a start take no more messages than the budget plus
+-- those of one round
 pub record RoundsAreBounded : Type 0 where
   pub shares : (budget : ℕ) (before after : Network) (pieces : List (List Event)) → AreRounds budget before pieces after → TakeShares (flat_map (λ es. es) pieces)
   pub same : (es fs : List Event) → SameJournals es fs → TakeShares fs → TakeShares es

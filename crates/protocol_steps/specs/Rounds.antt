@@ -25,7 +25,7 @@ taken_in i j es = taken_from j (flat_map (λ ts. ts) (journal i es))
 abbrev pub AreShares : List Take → Type 0
 AreShares ts = All (λ t. t.count ≤ link_share) ts
 
--- each of these events takes at most 64 messages from one sender
+-- each of these events takes at most 64 messages from any one sender
 abbrev pub TakeShares : List Event → Type 0
 TakeShares es = All (λ e. AreShares e.takes) es
 
@@ -33,7 +33,10 @@ TakeShares es = All (λ e. AreShares e.takes) es
 abbrev pub HasNotEnded : Network → ℕ → Type 0
 HasNotEnded net i = (v : View) × (slice_get net.views i ≡ Some v) × (ended_of v ≡ false)
 
--- one round: events that lead from one network state to another, at most 32 of each agent, each with at most 64 messages from one sender; on each link to an agent that has not ended afterwards, they take at least the lesser of 64 and what was pending at the beginning
+-- one round: events that lead from one network state to another, at most 32 of each agent, each
+-- with at most 64 messages from any one sender; on each link to an agent that has not ended
+-- afterwards, they take at least 64 messages, or as many as were pending at the beginning if these
+-- are fewer
 pub record IsRound (before : Network) (es : List Event) (after : Network) : Type 0 where
   pub leads : run before es ≡ Some after
   pub few : (i : ℕ) → length (journal i es) ≤ most_events

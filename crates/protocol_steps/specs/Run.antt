@@ -44,7 +44,8 @@ too_many ds i (t ∷ ts) =
 abbrev pub takes_fault : List Desk → ℕ → Bool → List Take → Option EventFault
 takes_fault ds i ended ts = or_else (form_fault (length ds) ended ts) (too_many ds i ts)
 
--- the first fault of an event whose agent has this view and this desk; there is nobody if one of them is missing
+-- the first fault of an event whose agent has this view and this desk; if one of them is missing,
+-- the fault is that there is no such agent
 abbrev pub fault_at : List Desk → Event → Option View → Option Desk → Option EventFault
 fault_at ds e None x = Some Nobody
 fault_at ds e (Some v) None = Some Nobody

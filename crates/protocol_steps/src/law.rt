@@ -77,9 +77,9 @@ pub fn rounds_are_a_run()
     ensures { RoundsAreARun }
 {}
 
-/// The events of rounds take at most 64 messages from one sender. So do those of every run with the
-/// same journals, and so does the log of such a run. Rounds take no more messages than the budget
-/// plus the most that one round takes.
+/// Each event of rounds takes at most 64 messages from any one sender. So does each event of every
+/// run with the same journals, and of the log of such a run. Rounds take no more messages than the
+/// budget plus the most that one round takes.
 pub fn rounds_are_bounded()
     ensures { RoundsAreBounded }
 {}

@@ -58,8 +58,8 @@ pub trait Machine: Drop {
     fn standing(&self) -> Standing
         ensures { result ≡ standing_of (meaning self.now) };
 
-    /// The UTIL table that a DPOP agent made; `None` exactly if the agent has not joined or is of
-    /// another kind.
+    /// The UTIL table that a DPOP agent made; `None` exactly if the agent has not joined its tables
+    /// or is of another kind.
     fn table(&self) -> Option<&Table>
         ensures { MatchOption result (table_of (meaning self.now) ≡ None)
             (λ t. table_of (meaning self.now) ≡ Some t.now) };

@@ -11,8 +11,8 @@ use pseudotree::Place;
 pub struct Outcome {
     /// The values; 0 for an agent that has taken none.
     pub values: ValList,
-    /// The UTIL tables of DPOP agents; `None` for an agent that has not joined or is of another
-    /// kind.
+    /// The UTIL tables of DPOP agents; `None` for an agent that has not joined its tables or is of
+    /// another kind.
     pub tables: OptionList<Table>,
     /// The places that token agents found, without the path's sizes; `None` for an agent that has
     /// not ended or is of another kind.

@@ -62,7 +62,8 @@ short_paths paths tree v lt =
     (leads_back (length (path_of paths v)) paths tree v (parent_of paths v) refl (omega arith)) in
     omega (arith, length-reverse (path_of paths v))
 
--- a pseudotree has no pair that is not ancestor and descendant; want of memory is no fault of it
+-- a pseudotree has no pair that is not ancestor and descendant; running out of memory is no fault
+-- of it
 pub no_split : (p : Dcop) (paths : List (List ℕ)) → IsPseudotree p paths → (fault : TreeFault) → IsSplitFault p paths fault → fault ≡ NoMemory
 no_split p paths is (Roots count) h = absurd h
 no_split p paths is (Loop var) h = absurd h

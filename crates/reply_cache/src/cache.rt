@@ -73,8 +73,8 @@ impl<M: Maker, A: Ledger, B: Ledger> ReplyCache<M, A, B> {
         })
     }
 
-    /// Looks up the reply to a key, of which the cache stays one of the owners; `None` exactly if
-    /// none is kept.
+    /// Looks up the reply to a key; `None` exactly if none is kept. The cache stays one of the
+    /// owners of the reply.
     ///
     /// The look is counted in the share, the maker learns of it, and the entry that was found comes
     /// first. No key and no reply is copied, so only comparing the keys takes longer for longer
@@ -142,8 +142,8 @@ impl<M: Maker, A: Ledger, B: Ledger> ReplyCache<M, A, B> {
         self.finds.len() as u64
     }
 
-    /// Does nothing. A caller that has all parts of both ledgers learns by its clauses that the
-    /// shares add up to what the cache counted.
+    /// Changes nothing, but a caller that has all parts of both ledgers learns by its clauses that
+    /// they have counted what the cache counted.
     pub fn audit(&mut self, share: &mut LookShare<A, B>)
         requires whole { (share.old.looks.parts ≡ A.parts) × (share.old.misses.parts ≡ B.parts) }
         ensures same { self.new ≡ self.old }

@@ -12,7 +12,7 @@ use Rattle.problem_text.specs.declared.fault.ReportKind.TheVariants.{NoEnd}
 use Rattle.report_reader.specs.declared.lines.Line.{Line}
 use Rattle.report_reader.specs.ReportLines.{Fault, Left}
 
--- a line of those that are left
+-- a line as its number and its words
 abbrev pub plain : Line → Plain
 plain line = record { number = line.number; words = words line.text.now }
 

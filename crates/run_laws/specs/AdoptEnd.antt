@@ -31,14 +31,17 @@ KnowsAncestors paths values i v = (u : ℕ) → value_in v.known u ≡ ancestor_
 abbrev pub IsRootThreshold : Dcop → ℕ → List ℕ → AdoptView → Type 0
 IsRootThreshold p error values v = (cost p values ≤ v.threshold) × (v.threshold ≤ cap (lower_bound v + error))
 
--- what holds when all ADOPT agents of a run have ended: their values are an assignment; each agent knows exactly its ancestors' values; the root's threshold is as above; and the cost of the values is at most the optimum plus the error
+-- what holds when all ADOPT agents of a run have ended: their values are an assignment; each agent
+-- knows exactly its ancestors' values; the root's threshold is what `IsRootThreshold` says; and the
+-- cost of the values is at most the optimum plus the error
 pub record HoldsAtEnd (p : Dcop) (paths : List (List ℕ)) (error : ℕ) (end : Network) : Type 0 where
   pub assignment : IsAssignment p (values_of end)
   pub known : (i : ℕ) → i < length p.sizes → (v : AdoptView) × (slice_get end.views i ≡ Some (AdoptKind v)) × KnowsAncestors paths (values_of end) i v
   pub threshold : (root : ℕ) → IsRoot paths root → (v : AdoptView) × (slice_get end.views root ≡ Some (AdoptKind v)) × IsRootThreshold p error (values_of end) v
   pub near : (m : ℕ) → IsOptimum p m → cost p (values_of end) ≤ m + error
 
--- when all agents of a run of ADOPT on a linked pseudotree have ended, for every requested error, this holds of their values, of what they know and of the root's threshold
+-- for every requested error, when all agents of a run of ADOPT on a linked pseudotree have ended,
+-- what `HoldsAtEnd` says holds
 abbrev pub AdoptEnds : Type 0
 AdoptEnds = (p : Dcop) (paths : List (List ℕ)) (error : ℕ) → IsProblem p → IsPseudotree p paths → IsLinked p paths
     → (es : List Event) (end : Network) → IsAdoptRun p paths error es end → has_ended end ≡ true → HoldsAtEnd p paths error end

@@ -8,7 +8,8 @@ use Rattle.dcop_optimum.specs.Optimum.{IsOptimum, IsBefore}
 use Rattle.dcop_optimum.specs.TreeOptimum.{IsFirstOptimumOf}
 use Rattle.run_laws.specs.Slice.{AreCut, AreCutValues, slice_of}
 
--- the first turn of least cost, and its cost: the optimum of its slice is at most that of any other, and less than that of each earlier turn's
+-- the first turn of least cost, and its cost: the optimum of its slice is at most that of any other
+-- turn's slice, and less than that of any earlier turn's slice
 pub record IsKeptTurn (p : Dcop) (cut turn : List ℕ) (least : ℕ) : Type 0 where
   pub within : AreCutValues p cut turn
   pub cost : IsOptimum (slice_of p cut turn) least

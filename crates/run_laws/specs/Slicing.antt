@@ -10,6 +10,7 @@ pub record IsLeastOfSlices (p : Dcop) (cut : List ℕ) (least : ℕ) : Type 0 wh
   pub attained : (values : List ℕ) × AreCutValues p cut values × IsOptimum (slice_of p cut values) least
   pub lowest : (values : List ℕ) (c : ℕ) → AreCutValues p cut values → IsOptimum (slice_of p cut values) c → least ≤ c
 
--- the slicing law
+-- the slicing law: the optimum of a problem is the least of its slices' optima, whatever variables
+-- are cut
 abbrev pub SlicingLaw : Type 0
 SlicingLaw = (p : Dcop) (cut : List ℕ) → IsProblem p → AreCut p cut → (least : ℕ) → IsOptimum p least ↔ IsLeastOfSlices p cut least

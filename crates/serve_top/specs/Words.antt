@@ -6,10 +6,11 @@ use Rattle.solve_serve.specs.Peers.{peer_limit, server_limit}
 use Rattle.serve_top.specs.declared.words.ServeWords.{ServeWords}
 use Rattle.serve_top.specs.declared.words.Refused.{Refused}
 
--- the ports at which a server may listen, from least_port to most_port
+-- the least port at which a server may listen
 abbrev pub least_port : ℕ
 least_port = 1024
 
+-- the greatest port at which a server may listen
 abbrev pub most_port : ℕ
 most_port = 65535
 

@@ -22,7 +22,7 @@ use Rattle.solve_edit.specs.declared.stop.Stop.TheVariants as stops
 use Rattle.solve_edit.specs.declared.playing.Played.{Played}
 use Rattle.solve_edit.specs.declared.playing.Played.TheVariants as played
 
--- want of memory says nothing
+-- running out of memory says nothing
 no_memory_played : (fault : Option SetFault) (next after : SessionState) → IsEditPlayed fault next (Err ends.NoMemory) after
 no_memory_played None next after = tt
 no_memory_played (Some fault) next after = tt

@@ -27,7 +27,8 @@ pub record Refused : Type 0 where
 abbrev pub refused : ℕ → EditKind → Result EditsTold Refused
 refused line kind = Err (record { line = line; kind = kind })
 
--- these optima put before the result of later lines; a fault is the only result
+-- these optima put before those of later lines; if a later line has a fault, the result is this
+-- fault alone
 abbrev pub behind : List Edited → Result EditsTold Refused → Result EditsTold Refused
 behind answers (Ok told) = Ok (record { answers = answers ++ told.answers; file = told.file })
 behind answers (Err fault) = Err fault

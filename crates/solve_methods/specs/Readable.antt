@@ -10,7 +10,7 @@ use Rattle.certificate_text.specs.declared.certificate.Certificate.TheVariants.{
 use Rattle.certificate_text.specs.declared.report.Report.{Report}
 use Rattle.solve_methods.specs.Adopt.{IsAdoptReport}
 
--- an event of a log has a stamp of at most amount_limit, and takes at most 64 messages of one
+-- an event of a log has a stamp of at most amount_limit, and takes at most 64 messages of any one
 -- sender
 abbrev pub IsSmallEvent : LogEvent → Type 0
 IsSmallEvent e = (e.stamp ≤ amount_limit) × AreShares e.takes

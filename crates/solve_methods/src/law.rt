@@ -15,7 +15,7 @@ pub fn adopt_reports_hold()
 }
 
 /// Under a budget within its limit, a report of ADOPT has at most 2^62 deliveries, and each event
-/// of its log has a stamp of at most 2^62 and takes at most 64 messages of one sender. These
+/// of its log has a stamp of at most 2^62 and takes at most 64 messages of any one sender. These
 /// numbers can therefore be read again.
 pub fn adopt_reports_are_small()
     ensures { AdoptReportsAreSmall }

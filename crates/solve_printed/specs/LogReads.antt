@@ -27,8 +27,8 @@ abbrev pub IsLogRead : ℕ → List ℕ → Result Report Fault → LogRead → 
 IsLogRead before text (Ok report) read = IsPrintedLog before text report.error report.certificate read
 IsLogRead before text (Err fault) read = read ≡ Refused (ReportText (before + fault.line) (number_of_report fault.kind))
 
--- the error is at most amount_limit, and the events of the log fit `count` agents; or the answer
--- has a text
+-- the log that was read can be played: its error is at most amount_limit, and its events fit
+-- `count` agents; or there is only an answer, which has a text
 abbrev pub IsPlayable : ℕ → LogRead → Type 0
 IsPlayable count (Given error log) = (error ≤ amount_limit) × All (FitsEvent count) log
 IsPlayable count (Refused answer) = HasText answer

@@ -9,7 +9,7 @@ use Rattle.wire_frames.specs.Frame.{framed}
 use Rattle.solve_serve.specs.declared.stop.Stop.{Stop}
 use Rattle.solve_serve.specs.declared.stop.Stop.TheVariants as stops
 
--- the looks of a share, how many of them found nothing, and the calls of a maker
+-- a number of looks, how many of them found nothing, and the number of calls of a maker
 pub record Tally : Type 0 where
   pub looks : ℕ
   pub misses : ℕ
@@ -19,8 +19,8 @@ pub record Tally : Type 0 where
 abbrev pub tally : ℕ → ℕ → ℕ → Tally
 tally looks misses calls = record { looks = looks; misses = misses; calls = calls }
 
--- looks were made that found a reply or not, as these say, and as many calls of the maker as looks
--- that found nothing
+-- looks were made, one for each entry of the list, which says whether it found a reply; and the
+-- maker was called once for each look that found nothing
 pub record Tallies (finds : List Bool) (before after : Tally) : Type 0 where
   pub looks : after.looks ≡ before.looks + length finds
   pub misses : after.misses ≡ before.misses + misses_of finds

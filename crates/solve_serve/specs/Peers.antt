@@ -14,8 +14,8 @@ abbrev pub server_limit : ℕ
 server_limit = 16
 
 module _ {S K M A B : Type 0} (made : M → ℕ) where
-  -- a peer whose session did not begin: it has parts of both ledgers, and its maker was called at
-  -- most 2^62 times
+  -- a peer whose session did not begin: its looks, and those of them that find nothing, can be
+  -- counted, and its maker was called at most 2^62 times
   pub record IsFresh (p : Peer S K M A B) : Type 0 where
     pub endless : p.end ≡ None
     pub look_parts : 0 < p.share.looks.parts

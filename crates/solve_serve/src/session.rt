@@ -22,9 +22,9 @@ use std::sync::ledger::Ledger;
 use std::thread::Threads;
 use wire_frames::FrameReader;
 
-/// Serves one session: passes the gate once with the session's number, then reads frames of at most
-/// [`MAX_REQUEST`] bytes and writes the frame of the reply to each, until the input ends, a limit
-/// is met, a call fails or memory runs out.
+/// Serves one session: reads frames of at most [`MAX_REQUEST`] bytes and writes the frame of the
+/// reply to each, until the input ends, a limit is met, a call fails or memory runs out. It passes
+/// the gate once before, with the session's number.
 ///
 /// A reply is looked up in the cache. If it is not there, the maker makes it while the cache's lock
 /// is free, and it is kept if its key is short enough. Whoever holds the lock only looks or keeps,

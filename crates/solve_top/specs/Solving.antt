@@ -49,8 +49,9 @@ pub record Solves (words : List (List ℕ)) (honest : Type 0) (old new : ℕ) (s
   pub links : TellsAnswer (AskForNodes words) honest old new answer
   pub shown : IsWholeShown answer sink sink' status ⊎ IsCutShort answer sink sink' status
 
--- a task is within its limits: the assignments that plain tries, the width of the tree for DPOP,
--- and what refuses a cut
+-- a task is within its limits: plain has at most assignment_limit assignments to try; for DPOP
+-- nothing is too wide in the tree; a cut has a limit of at least size_limit cells, and nothing
+-- refuses it; every other task is within its limits
 abbrev pub IsWithinLimits : FileTask → Declared → Type 0
 IsWithinLimits tasks.Plain d = product d.sizes ≤ assignment_limit
 IsWithinLimits (tasks.Dpop certified) d = HasFitTree d
@@ -66,9 +67,9 @@ pub record IsProblemFor (format : Format) (task : FileTask) (text : List ℕ) : 
   pub read : input_read format text ≡ Ok told
   pub within : IsWithinLimits task told.declared
 
--- a text begins with a problem in this format, which ends with line_feed and has no words, not even
--- in comments, after its last line; a report follows that some method prints for it with a
--- certificate
+-- a text is a problem in this format, followed by a report that some method prints for it with a
+-- certificate. The problem ends with line_feed, and after its last line there are no words, not
+-- even in comments
 pub record IsPrintedFor (format : Format) (text : List ℕ) : Type 0 where
   pub problem : List ℕ
   pub parts : Parts
@@ -99,15 +100,16 @@ pub record IsEditedFor (text : List ℕ) : Type 0 where
   pub taken : AreLinesTaken fits.file (plain_lines (lines_in (take parts.used text) + 1) (drop parts.used text))
 
 -- a text for a task: a problem within its limits; for `check` a problem and a report printed for
--- it; for `replay` one with a log; for `edit` edit lines of which none is refused
+-- it; for `replay` the same with a log in the report; for `edit` a problem and edit lines of which
+-- none is refused
 abbrev pub IsTextFor : Task → List ℕ → Type 0
 IsTextFor (File format task) text = IsProblemFor format task text
 IsTextFor (Check format) text = IsPrintedFor format text
 IsTextFor (Replay format after) text = IsLoggedFor format text
 IsTextFor Edit text = IsEditedFor text
 
--- words are accepted and give a task on an input, and the text is short enough and one for this
--- task
+-- words are accepted and give a task on an input, and the text is one for this task and has at most
+-- input_limit bytes
 pub record Accepts (words : List (List ℕ)) (text : List ℕ) : Type 0 where
   pub command : Command
   pub task : Task
@@ -125,8 +127,8 @@ pub record AsksDrill (words : List (List ℕ)) : Type 0 where
   pub served : drill_of command ≡ Some drill
   pub within : IsWithinLimits drill.task (declared_by (made_for drill))
 
--- a task goes well: it is solved, or for ADOPT, also if auto takes it, the budget is spent, or
--- memory ran out
+-- a task goes well: it is solved; or memory ran out; or the method is ADOPT or auto, and the budget
+-- is spent
 abbrev pub GoesWell : Status → Task → Type 0
 GoesWell statuses.Solved task = Unit {0}
 GoesWell statuses.NoMemory task = Unit {0}

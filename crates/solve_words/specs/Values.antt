@@ -27,7 +27,7 @@ abbrev pub method_or : Choice → Option Setting → Choice
 method_or default (Some (Method choice)) = choice
 method_or default _ = default
 
--- the answer that is set, or this one
+-- whether a certificate is requested, if that is set, and otherwise this
 abbrev pub certificate_or : Bool → Option Setting → Bool
 certificate_or default (Some (Certificate wanted)) = wanted
 certificate_or default _ = default

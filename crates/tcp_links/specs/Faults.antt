@@ -37,8 +37,8 @@ abbrev pub IsKeptDifference : List Wire → Difference → Type 0
 IsKeptDifference ws (Message from to at sent taken) = DifferKept ws from to at sent taken
 IsKeptDifference ws (Bytes round from_node to_node place sent taken) = ⊥
 
--- the dialer's count of faults rose, or is at its last value, if the fault is `Failed`, and else
--- stayed as it was
+-- if the fault is `Failed`, the dialer's count of faults rose, or is at its limit; else it stayed
+-- as it was
 abbrev pub HasNodeCause : {T : Type 0} → ℕ → ℕ → Result T NodeFault → Type 0
 HasNodeCause old new (Ok value) = new ≡ old
 HasNodeCause old new (Err Failed) = (old ≤ new) × Rose old new

@@ -13,7 +13,7 @@ use protocol_steps::Envelope;
 pub enum Difference {
     /// On the lowest link that differs, by its sender and then its receiver: the first position at
     /// which the envelope that arrived is not the one that was drained in the same exchange. If one
-    /// of the exchange's two lists is over there, its envelope is `None`.
+    /// of the exchange's two lists ends there, its envelope is `None`.
     Message {
         /// The agent that sends on the link.
         from: VarId,

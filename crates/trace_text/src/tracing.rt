@@ -20,7 +20,7 @@ use protocol_steps::{Event, EventFault, TakeList};
 use run_log::LogEvent;
 use std::alloc::Global;
 
-/// PlaysEvent the events of a log from a start, and gives their text from the event with number `from`
+/// Plays the events of a log from a start, and gives their text from the event with number `from`
 /// on. Events count from 1; with 0 the starts of all agents are written first.
 ///
 /// A tree of the start is a pseudotree of the problem, and linked; an error is at most 2^62. Stamps
@@ -93,7 +93,7 @@ fn write_starts(
     Ok(())
 }
 
-/// PlaysEvent the events of a log, and writes those with a number from `from` on.
+/// Plays the events of a log, and writes those with a number from `from` on.
 fn write_events(
     alloc: Global,
     text: &mut String,
@@ -131,7 +131,7 @@ fn event_of(alloc: Global, event: &LogEvent) -> Result<Event, NoMemory>
     })
 }
 
-/// PlaysEvent an event of a log. `Some` exactly if it is not lawful, with its first fault.
+/// Plays an event of a log. `Some` exactly if it is not lawful, with its first fault.
 fn play(
     alloc: Global,
     core: &mut CoreState,
@@ -144,7 +144,7 @@ fn play(
     core.happen(alloc, &plain)
 }
 
-/// PlaysEvent an event of a log, and writes it with this number. `Some` exactly if it is not lawful,
+/// Plays an event of a log, and writes it with this number. `Some` exactly if it is not lawful,
 /// with its first fault.
 fn tell(
     alloc: Global,

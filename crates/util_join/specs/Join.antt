@@ -8,7 +8,9 @@ use Rattle.util_join.specs.declared.joined.JoinFault.{JoinFault}
 use Rattle.util_join.specs.declared.joined.JoinFault.TheVariants.{TooWide, NoMemory}
 use Rattle.dcop_base.specs.Limits.{joined_limit, count_limit}
 
--- a result is right for variables with these sizes: a joined table of zeros, or too wide, exactly above joined_limit, with the number of cells; running out of memory is allowed for any sizes
+-- a result is right for variables with these sizes: a joined table of zeros, if it has at most
+-- joined_limit cells; otherwise that it is too wide, with its number of cells; running out of
+-- memory is allowed for any sizes
 abbrev pub MakesJoined : List ℕ → List ℕ → Result CostTable JoinFault → Type 0
 MakesJoined over sizes (Ok t) = (product sizes ≤ joined_limit) × IsTableOfParts over sizes (replicate (product sizes) 0) t
 MakesJoined over sizes (Err (TooWide cells)) = (joined_limit < product sizes) × (cells ≡ min (product sizes) count_limit)

@@ -6,7 +6,7 @@ use Rattle.problem_text.specs.declared.line_end.LineEnd.TheVariants as ends
 use Rattle.wcsp_text.specs.declared.fault.Fault.{Fault}
 use Rattle.wcsp_text.specs.Gives.{Ends, Gives}
 
--- a part's fault is the whole's; want of memory says nothing
+-- a part's fault is the whole's; running out of memory says nothing
 pub ends-up : {A B : Type 0} (part : Result A Fault) (whole : Result B Fault) (end : LineEnd Fault) → Ends end part → ((fault : Fault) → part ≡ Err fault → whole ≡ Err fault) → Ends end whole
 ends-up part whole (ends.Fault fault) h up = up fault h
 ends-up part whole ends.NoMemory h up = h

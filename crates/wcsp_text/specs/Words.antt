@@ -29,7 +29,7 @@ pieces (b ∷ bs) =
 abbrev pub words : List ℕ → List Word
 words bytes = filter (λ w. has_some w.text) (pieces bytes)
 
--- the line of the word that `after` bytes follow, or of the text's end if `after` is 0: 1 plus the
--- number of line_feed bytes in the text before those bytes
+-- the line of the word after which `after` bytes of the text are left, or of the text's end if
+-- `after` is 0: 1 plus the number of line_feed bytes in the text before those bytes
 abbrev pub line_at : List ℕ → ℕ → ℕ
 line_at bytes after = 1 + count_by (λ b. b == line_feed) (take (length bytes - after) bytes)

@@ -12,15 +12,16 @@ use crate::fault::{Fault, WcspKind, fault_before};
 use crate::word::next_word;
 use problem_text::{LF, LineEnd, line_behind};
 
-/// The line of the word that `after` bytes of the text follow; 0 means the end of the text.
+/// The line of the word after which `after` bytes of the text are left; 0 means the end of the
+/// text.
 pub fn line_of(bytes: &[u8], after: usize) -> u64
     ensures { result ≡ line_at bytes.now after }
 {
     line_behind(bytes.split_at(bytes.len().saturating_sub(after)).0)
 }
 
-/// How many bytes of the text give a network whose last word this text follows: those up to and
-/// including the line of that word. No further word may be on that line.
+/// How many bytes of the text `bytes` give its network, if `after` is what follows the network's
+/// last word: those up to and including the line of that word. No further word may be on that line.
 pub fn used_of(bytes: &[u8], after: &[u8]) -> Result<usize, LineEnd<Fault>>
     ensures { (w : Network) → Gives (λ used. (w, used)) result
         (ended bytes.now w (length after.now) (words after.now)) }
@@ -33,7 +34,8 @@ pub fn used_of(bytes: &[u8], after: &[u8]) -> Result<usize, LineEnd<Fault>>
     Ok(bytes_with_line(bytes, after.len()))
 }
 
-/// How many bytes a text has up to and including the line of the word that `after` bytes follow.
+/// How many bytes a text has up to and including the line of the word after which `after` bytes are
+/// left.
 fn bytes_with_line(bytes: &[u8], after: usize) -> usize
     ensures { result ≡ bytes_to bytes.now (line_at bytes.now after) }
 {

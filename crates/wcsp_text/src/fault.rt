@@ -72,7 +72,7 @@ pub struct Fault {
     pub kind: WcspKind,
 }
 
-/// The end of reading at a fault of the word that this text follows.
+/// What reading gives if the word before this text has a fault of this kind.
 pub fn fault_before(after: &[u8], kind: WcspKind) -> LineEnd<Fault>
     ensures { result ≡ ends.Fault (record { after = length after.now; kind = kind }) }
 {

@@ -28,7 +28,7 @@ pub record IsNew (t : Told) : Type 0 where
   pub read_waits : t.read_waits ≡ 0
   pub faults : t.faults ≡ 0
 
--- it tells its bytes, and it has sent and received none
+-- an end that tells its bytes, and has sent and received none
 pub record TellsNothing (t : Told) : Type 0 where
   pub sent : t.sent ≡ Some []
   pub received : t.received ≡ Some []

@@ -13,7 +13,8 @@ pub record Before : Type 0 where
   pub sent_count : ℕ
   pub received_count : ℕ
 
--- this of two ends, the sending one first
+-- what the first of two ends has sent and the second has received so far, as the start of a
+-- direction
 abbrev pub start_of : Told → Told → Before
 start_of from to = record { sent = from.sent; received = to.received; sent_count = from.sent_count; received_count = to.received_count }
 
@@ -48,14 +49,14 @@ module _ {W : Type 0} (told : W → Told) where
     pub second : CountsLater (told a.second) (told b.second)
 
   -- each end that still has bytes to send has waited for a write since then, and each that still
-  -- has bytes to receive has waited for a read; a count at its last value stays there
+  -- has bytes to receive has waited for a read; a count at its limit stays there
   pub record Waits (a b : Ends W) : Type 0 where
     pub first_writes : b.there.went < vec_len b.there.bytes → Rose (told a.first).write_waits (told b.first).write_waits
     pub second_writes : b.back.went < vec_len b.back.bytes → Rose (told a.second).write_waits (told b.second).write_waits
     pub second_reads : b.there.came < vec_len b.there.bytes → Rose (told a.second).read_waits (told b.second).read_waits
     pub first_reads : b.back.came < vec_len b.back.bytes → Rose (told a.first).read_waits (told b.first).read_waits
 
-  -- neither count of faults fell since then, and one rose or is at its last value
+  -- neither count of faults fell since then, and one rose or is at its limit
   pub record FailsAt (a b : Ends W) : Type 0 where
     pub first : (told a.first).faults ≤ (told b.first).faults
     pub second : (told a.second).faults ≤ (told b.second).faults

@@ -30,7 +30,7 @@ pub record Receives (a : Told) (old : List ℕ) (came : ℕ) (b : Told) (new : L
   pub write_waits : b.write_waits ≡ a.write_waits
   pub faults : b.faults ≡ a.faults
 
--- the wire failed: its count of faults rose, or is at its last value
+-- the wire failed: its count of faults rose, or is at its limit
 pub record Fails (a b : Told) : Type 0 where
   pub grew : a.faults ≤ b.faults
   pub rose : Rose a.faults b.faults

@@ -75,7 +75,7 @@ abbrev pub all_altered : List Alter → ℕ → List ℕ → List ℕ
 all_altered alters place [] = []
 all_altered alters place (byte ∷ bytes) = altered alters place byte ∷ all_altered alters (place + 1) bytes
 
--- the count went up by `count`, or is at its last value
+-- the count went up by `count`, or is at its limit
 abbrev pub HasCounted : ℕ → ℕ → ℕ → Type 0
 HasCounted old count new = (new ≡ old + count) ⊎ (new ≡ count_limit)
 

@@ -43,20 +43,19 @@ pub record Gave (a : Told) (buffer filled : List ℕ) (count : ℕ) (b : Told) :
   pub counted : b.received_count ≡ counted_more a.received_count count
   pub is : b ≡ record a { received = told_more a.received (take count filled); received_count = b.received_count }
 
--- a call failed: the count of faults rose, or is at its last value, and nothing else changed
+-- a call failed: the count of faults rose, or is at its limit, and nothing else changed
 pub record Broke (a b : Told) : Type 0 where
   pub grew : a.faults ≤ b.faults
   pub rose : Rose a.faults b.faults
   pub is : b ≡ record a { faults = b.faults }
 
--- a write waits: the count of waits of writes rose, or is at its last value, and nothing else
--- changed
+-- a write waits: the count of waits of writes rose, or is at its limit, and nothing else changed
 pub record WaitsToWrite (a b : Told) : Type 0 where
   pub grew : a.write_waits ≤ b.write_waits
   pub rose : Rose a.write_waits b.write_waits
   pub is : b ≡ record a { write_waits = b.write_waits }
 
--- a read waits: the count of waits of reads rose, or is at its last value, and nothing else changed
+-- a read waits: the count of waits of reads rose, or is at its limit, and nothing else changed
 pub record WaitsToRead (a b : Told) : Type 0 where
   pub grew : a.read_waits ≤ b.read_waits
   pub rose : Rose a.read_waits b.read_waits

@@ -17,7 +17,7 @@ use std::time::Clock;
 /// Why a dialer refuses a call.
 #[derive(Clone, Copy, Debug, PartialEq, Eq)]
 pub enum DialFault {
-    /// The dialer failed: its count of faults rose in this call, or was at its last value.
+    /// The dialer failed: its count of faults rose in this call, or was at its limit.
     Failed,
     /// Memory ran out.
     NoMemory,

@@ -9,7 +9,9 @@ use Rattle.worker_laws.specs.Cells.{CellState, lane, known_from, IsWired, EachAr
 use Rattle.worker_laws.specs.Visits.{IsStarted, IsQuiet}
 use Rattle.worker_laws.specs.Sprints.{IsSprint}
 
--- the link from agent j to agent i is settled, by the cells of both: what the receiver took followed by what waits is what the sender sent, and of the waiting messages at least the lesser of 64 and all are known to the receiver
+-- the link from agent j to agent i is settled, by the cells of both: what the receiver took
+-- followed by what waits is what the sender sent, and the receiver knows of at least 64 of the
+-- waiting messages, or of all if they are fewer
 pub record IsSettled (i j : ℕ) (to from : CellState) : Type 0 where
   pub waiting : List (ℕ × Message)
   pub whole : lane j to.taken ++ waiting ≡ lane i from.sent

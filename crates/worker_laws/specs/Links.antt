@@ -7,7 +7,9 @@ use Rattle.worker_laws.specs.Cells.{CellState, lane, known_from}
 use Rattle.worker_laws.specs.Wires.{Wire, AreApart}
 use Rattle.worker_laws.specs.Exchanges.{IsExchanged}
 
--- one link was exchanged, by the cells at its ends: all that was sent has been drained; what was taken followed by what waits is what arrived; and of the waiting messages at least the lesser of 64 and all are known
+-- one link was exchanged, by the cells at its ends: all that was sent has been drained; what was
+-- taken followed by what waits is what arrived; and the receiver knows of at least 64 of the
+-- waiting messages, or of all if they are fewer
 pub record IsLinkExchanged (w : Wire) (to from : CellState) : Type 0 where
   pub drained : flat_map (λ p. p.drained) w.passages ≡ lane w.receiver from.sent
   pub waiting : List (ℕ × Message)

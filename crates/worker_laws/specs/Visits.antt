@@ -10,7 +10,7 @@ use Rattle.protocol_steps.specs.Deeds.{takes_of, greatest_of, posted_to, gained_
 use Rattle.protocol_steps.specs.Rounds.{link_share}
 use Rattle.worker_laws.specs.Cells.{CellState, peers, lane, grown, known_from}
 
--- at most link_share messages are taken from one sender
+-- at most link_share messages are taken from the one sender
 abbrev pub IsFew : Gain → Type 0
 IsFew g = length g.envelopes ≤ link_share
 

@@ -16,10 +16,11 @@ use crate::visits::VisitCount;
 use dcop_edge::Gate;
 
 impl Cell {
-    /// Passes the gate, takes all that it finds on each link, at most 64 messages of each, lets the
-    /// agent react once, and sends what it sends with the next stamp. Returns how many messages it
-    /// took. The number is 0 only if no message was known to wait; then nothing has changed except
-    /// what the cell knows of its links. It allocates memory if it finds something.
+    /// Takes all that it finds on each link, at most 64 messages of each, lets the agent react
+    /// once, and sends what the agent sends with the next stamp. It passes the gate first. Returns
+    /// how many messages it took. The number is 0 only if no message was known to wait; then
+    /// nothing has changed except what the cell knows of its links. It allocates memory if it finds
+    /// something.
     ///
     /// # Errors
     ///

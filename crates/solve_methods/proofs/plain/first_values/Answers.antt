@@ -7,7 +7,7 @@ use Rattle.dcop_optimum.specs.declared.plain.PlainFault.TheVariants.{TooMany, No
 use Rattle.solve_methods.specs.Plain.{GivesFirst, IsTooMany}
 use Rattle.solve_methods.proofs.plain.first_values.Goals as goal
 
--- a fault tells too many assignments, or want of memory
+-- a fault tells too many assignments, or that memory ran out
 GivesFirst-fault : (p : Dcop) (fault : PlainFault) (result : Result Best PlainFault) → result ≡ Err fault
     → ((n : ℕ) → (result ≡ Err (TooMany n)) ↔ IsTooMany (assignment_count p) n) → GivesFirst p (Err fault)
 GivesFirst-fault p (TooMany n) result is many = (many n).0 is
