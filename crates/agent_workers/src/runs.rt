@@ -23,8 +23,8 @@ use std::thread::{Threads, available_parallelism};
 
 /// Starts the agents of all cells, in order, and plays the cells in rounds in one node until the
 /// run has ended under this budget of deliveries. At most `workers` workers play a round, and no
-/// more than there are processors, but two if two are asked for. They share each round for which
-/// enough work waits, and one worker plays the others. It allocates memory. After [`NoMemory`] each
+/// more than there are processors, but two if two are asked for. They share a round if enough
+/// work waits or none gets two cells; else one plays it. It allocates memory. After [`NoMemory`] each
 /// cell is still a sound cell of its agent, with its links. The clause `left` says how far the starts
 /// and the rounds came: each cell that has not failed is as they leave it.
 ///

@@ -47,9 +47,9 @@ IsAllOf bytes (Some left) after = (bytes ≡ left) × (after ≡ Some [])
 abbrev pub but_last : List ℕ → List ℕ
 but_last counts = take (length counts - 1) counts
 
--- the reads between two states of a source took these bytes. Each read but the last took at least
--- one of them, and reading stopped with the first read that took the total above input_limit: all
--- but the last took no more than that together
+-- the reads between two states of a source gave as many bytes as these. Each but the last gave at
+-- least one, and reading stopped with the first that took the total above input_limit: all but the
+-- last gave no more than that together
 pub record AreReadsOf (bytes : List ℕ) (before after : SourceState) : Type 0 where
   pub counts : List ℕ
   pub made : after.gave ≡ before.gave ++ counts

@@ -54,8 +54,8 @@ use wire_pump::{Dialer, Wire};
 /// - [`NodeFault::NoMemory`] if memory runs out.
 ///
 /// After a fault the clause `left` says how far the run had come. The cells and the links of the
-/// plan are as some number of whole rounds and exchanges left them, and then one exchange or round
-/// that may have been broken off. If memory ran out before all agents had started, no link has
+/// plan are as whole rounds and exchanges left them, and then a round, an exchange or both that may
+/// have been broken off. If memory ran out before all agents had started, no link has
 /// passed anything. The clauses `same` and `sound` say what else is left of the cells, and `keeps`,
 /// `noted` and `wires` of the plan. Only the link whose [`Difference::Message`] is answered is like
 /// a new one, and what a link has noted really went through its inner ends. Only after
