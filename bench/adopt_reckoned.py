@@ -1,4 +1,4 @@
-"""The trace of a log of ADOPT, reckoned anew from the ADOPT step of docs/reference/definitions.md and docs/formats/dcop_trace.md."""
+"""The trace of a log of ADOPT, reckoned anew from the ADOPT step of docs/reference/definitions/model.md and docs/formats/dcop_trace.md."""
 
 from __future__ import annotations
 

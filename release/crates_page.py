@@ -25,7 +25,7 @@ def page() -> str:
     seconds, layers = measured["seconds"], Layers()
     told = ["# Crates\n", MADE, opening(measured["run"], len(uses)).rstrip("\n")]
     for crate in uses:
-        if heading := layers.heading(crate, aim=True):
+        if heading := layers.heading(crate):
             told += ["", *heading, HEAD]
         again = sum(spent(seconds, it) for it in {crate, *above[crate]}) / 60
         times = f"{shown(seconds, crate, 'proof')} | {shown(seconds, crate, 'tests')} | {again:.0f}"

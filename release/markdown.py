@@ -1,4 +1,4 @@
-"""What the pages that are made from the sources share: their first line, cells of tables, links, and the layers of crates."""
+"""What the pages that are made from the sources share: their first line, cells of tables, and the layers of crates."""
 
 from __future__ import annotations
 
@@ -19,23 +19,29 @@ class Layers:
 
     def __init__(self) -> None:
         self.names: dict[str, str] = {}
-        self.aims: dict[str, str] = {}
+        self.said: dict[str, str] = {}
         self.last = ""
         layer = ""
         for line in (TOP / "crates.txt").read_text().splitlines():
             if line.startswith("# "):
-                layer, _, aim = re.split("([:;,])", line.removeprefix("# "), maxsplit=1)[:3] if re.search("[:;,]", line) else (line[2:], "", "")
-                self.aims[layer] = aim.strip()
+                heading = line.removeprefix("# ")
+                layer = re.split("[:;,]", heading)[0]
+                told = heading.removeprefix(f"{layer}: ")
+                self.said[layer] = f"{told[0].lower()}{told[1:]}"
             elif ":" in line:
                 self.names[line.split(":")[0].split()[0]] = layer
 
-    def heading(self, crate: str, aim: bool = False) -> list[str]:
-        """The heading of a layer, before the first crate of it that a page has; with what the layer is for, if that is asked for."""
+    def heading(self, crate: str) -> list[str]:
+        """The heading of a layer, with what the layer is, before the first crate of it that a page has."""
         layer = self.names[crate]
         first = layer != self.last
         self.last = layer
-        said = self.aims[layer]
-        return [f"## {layer}\n", *([f"{said[0].upper()}{said[1:]}.\n"] if aim and said else [])] if first else []
+        said = f"{self.said[layer][0].upper()}{self.said[layer][1:]}"
+        return [f"## {layer}\n", *([f"{said}.\n"] if said != layer else [])] if first else []
+
+    def short(self, layer: str) -> str:
+        """The name of a layer for files: its first words, without those that say only that it is a program."""
+        return re.sub(r"^the (program )?| of .*", "", layer.lower()).replace(" ", "-")
 
 
 def first_sentence(comment: list[str]) -> str:
@@ -49,8 +55,3 @@ def first_sentence(comment: list[str]) -> str:
 
 def cell(text: str) -> str:
     return text.replace("|", "\\|")
-
-
-def link(path: Path, line: int) -> str:
-    inside = path.relative_to(TOP).as_posix()
-    return f"[{path.name}:{line}](../../{inside}#L{line})"

@@ -7,18 +7,34 @@ import subprocess
 import sys
 import tomllib
 import unittest
+from functools import cache
 from pathlib import Path
 
 from .case import FRONT
 
 TOP = FRONT.parent
-PAGES = [TOP / "README.md", TOP / "CONTRIBUTING.md", FRONT / "README.md", *(it for it in TOP.glob("docs/**/*.md") if it.parent.name != "reference")]
+PAGES = [TOP / "README.md", TOP / "CONTRIBUTING.md", FRONT / "README.md", *TOP.glob("docs/**/*.md")]
+REFERENCE = TOP / "docs" / "reference"
+LINK = re.compile(r"(?:\]\(|^\[\w+\]: )(?!https?:)([^)#\s]*)(?:#([^)\s]*))?", re.MULTILINE)
+"""The path and the place of a link within the repository, whether it is written out or at the end of its page."""
 
 
+@cache
 def anchors(page: Path) -> set[str]:
     """What a link may name after `#` in a page: its headings in small letters, with `-` for blanks and without other signs."""
     headings = re.findall(r"^#+ (.*)$", re.sub(r"^```.*?^```", "", page.read_text(), flags=re.MULTILINE | re.DOTALL), re.MULTILINE)
     return {re.sub(r"[^\w -]", "", heading.lower()).strip().replace(" ", "-") for heading in headings}
+
+
+@cache
+def lines(file: Path) -> list[str]:
+    return file.read_text().splitlines()
+
+
+def sections(page: Path) -> dict[str, str]:
+    """The text of each crate in a page of definitions or calls."""
+    _, *parts = re.split(r"^## (\w+)\n", page.read_text(), flags=re.MULTILINE)
+    return dict(zip(parts[::2], parts[1::2]))
 
 
 class Reference(unittest.TestCase):
@@ -41,18 +57,47 @@ class Reference(unittest.TestCase):
         links = [(page, *it) for page in PAGES for it in re.findall(r"\[`(\w+)`\]\(([^)#]+)#L(\d+)\)", page.read_text())]
         self.assertTrue(links)
         for page, name, path, line in links:
-            self.assertIn(name, (page.parent / path).read_text().splitlines()[int(line) - 1], f"{page.name}: {name}")
+            self.assertIn(name, lines(page.parent / path)[int(line) - 1], f"{page.name}: {name}")
 
     def test_a_link_leads_somewhere(self):
         for page in PAGES:
-            for path in re.findall(r"\]\((?!https?:)([^)#]+)", page.read_text()):
+            for path in {path for path, _ in LINK.findall(page.read_text())}:
                 self.assertTrue((page.parent / path).exists(), f"{page.name}: {path}")
 
     def test_a_link_to_a_heading_finds_it(self):
         for page in PAGES:
-            for path, anchor in re.findall(r"\]\((?!https?:)([^)#]*)#(?!L\d)([^)]+)\)", page.read_text()):
-                with self.subTest(f"{page.name}: {path}#{anchor}"):
-                    self.assertIn(anchor, anchors(page.parent / path if path else page))
+            for path, anchor in LINK.findall(page.read_text()):
+                if anchor and not re.match(r"L\d", anchor):
+                    with self.subTest(f"{page.name}: {path}#{anchor}"):
+                        self.assertIn(anchor, anchors(page.parent / path if path else page))
+
+    def test_a_row_of_definitions_or_calls_leads_to_the_line_of_its_name(self):
+        for page in (*REFERENCE.glob("definitions/*.md"), *REFERENCE.glob("calls/*.md")):
+            rows = re.findall(r"^\| `(?:\w+::)?([^`]+)` \| .* \| \[([^]:]+):(\d+)\]\(([^)#]+)#L(\d+)\) \|$", page.read_text(), re.MULTILINE)
+            self.assertEqual(len(rows), len(re.findall(r"^\| `", page.read_text(), re.MULTILINE)))
+            for name, file, told, path, line in rows:
+                self.assertEqual((file, told), (Path(path).name, line))
+                self.assertIn(name, lines(page.parent / path)[int(line) - 1], f"{page.name}: {name}")
+
+    def test_the_pages_of_definitions_and_calls_lead_to_the_section_of_each_crate(self):
+        for kind in ("definitions", "calls"):
+            index, pages = (REFERENCE / f"{kind}.md").read_text(), sorted(REFERENCE.glob(f"{kind}/*.md"))
+            self.assertTrue(pages)
+            found = [(f"{kind}/{page.name}", crate) for page in pages for crate in sections(page)]
+            self.assertEqual(sorted(re.findall(r"\(([^)#]+)#(\w+)\)", index)), sorted(found))
+            self.assertEqual(len({crate for _, crate in found}), len(found))
+            for page in pages:
+                self.assertIn(f"({kind}/{page.name}):", index)
+                self.assertIn(f"](../{kind}.md)", page.read_text())
+
+    def test_what_a_clause_cites_leads_to_its_definition(self):
+        defined = {crate: text for page in REFERENCE.glob("definitions/*.md") for crate, text in sections(page).items()}
+        for page in REFERENCE.glob("calls/*.md"):
+            text = page.read_text()
+            cited = set(re.findall(r"\[`([^`]+)`\]\[(\w+)\]", text))
+            self.assertEqual({crate for _, crate in cited}, set(re.findall(r"^\[(\w+)\]: \.\./definitions/\S+#\1$", text, re.MULTILINE)))
+            for name, crate in cited:
+                self.assertIn(f"`{name}`", defined[crate].partition("Cited by no clause")[0], f"{page.name}: {name}")
 
 
 if __name__ == "__main__":
