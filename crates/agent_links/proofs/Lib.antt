@@ -1,6 +1,7 @@
 pub mod ListLaws
 pub mod PairLaws
 pub mod LinkLaws
+mod KindLaws
 mod OutcomeLaws
 pub mod ReadyLaws
 pub mod SeatLaws

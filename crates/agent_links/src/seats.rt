@@ -14,7 +14,7 @@ ghost use Rattle.delivery_core.specs.Starts.{agent_of, knowledge_for};
 ghost use Rattle.agent_links.specs.Kinds.{view_of};
 ghost use Rattle.agent_links.specs.Seats.{all_neighbours, HaveEnds, IsSeat, AreSeated, AreSeats};
 
-use crate::agent::Agent;
+use crate::agent::{Agent, Kind};
 use crate::links::{Links, link_all};
 use crate::seat::Seat;
 use adopt_agent::AdoptAgent;
@@ -192,14 +192,20 @@ fn make_agent(
     private_is_knowledge();
     acquaintance_is_knowledge();
     match start {
-        Start::Token => Ok(Agent::Token(TokenAgent::new(alloc, own)?)),
+        Start::Token => Ok(Agent {
+            kind: Kind::Token(TokenAgent::new(alloc, own)?),
+        }),
         Start::Dpop(tree) => {
             let place = place_in(alloc, problem, tree, own.me)?;
-            Ok(Agent::Dpop(DpopAgent::new(alloc, own, place)?))
+            Ok(Agent {
+                kind: Kind::Dpop(DpopAgent::new(alloc, own, place)?),
+            })
         }
         Start::Adopt(tree, error) => {
             let place = place_in(alloc, problem, tree, own.me)?;
-            Ok(Agent::Adopt(AdoptAgent::new(alloc, own, place, *error)?))
+            Ok(Agent {
+                kind: Kind::Adopt(AdoptAgent::new(alloc, own, place, *error)?),
+            })
         }
     }
 }
