@@ -9,6 +9,9 @@ use tokio::io::{AsyncRead, AsyncWrite};
 use tokio::net::TcpStream;
 use wire_pump::Wire;
 
+/// The most bytes of one read: it fills a block of so many on the stack.
+const BLOCK: usize = 4096;
+
 /// One end of a connection. An error of the socket is a fault, and so is the end of the stream. It
 /// tells how many bytes it has sent and received, and not which. It is joined to no wire.
 #[derive(Drop)]
@@ -74,13 +77,17 @@ impl Wire for TcpWire {
         }
     }
 
+    // `tokio` does not say what a read that fails or waits leaves in a buffer, so it gets one of its
+    // own.
     fn poll_read(&mut self, cx: &mut Context<'_>, into: &mut [u8]) -> Poll<Result<usize, Failed>> {
+        let mut block = [0; BLOCK];
         let room = into.len();
-        match self.stream.poll_read(cx, into) {
+        match self.stream.poll_read(cx, &mut block[..room.min(BLOCK)]) {
             Poll::Ready(Ok(count)) => {
                 if count == 0 && room > 0 {
                     return Poll::Ready(Err(self.fault()));
                 }
+                into[..count].copy_from_slice(&block[..count]);
                 self.received_count = self.received_count.saturating_add(count as u64);
                 Poll::Ready(Ok(count))
             }

@@ -1,5 +1,5 @@
 -- What a wire tells, and how each of its calls changes that.
-use Rattle.std.specs.Prelude.{◌≡◌, ◌+◌, ◌<◌, ◌≤◌, ℕ, min, max, List, ◌++◌, length, take, Option, Some, None, Result, Ok, Err}
+use Rattle.std.specs.Prelude.{◌≡◌, ◌+◌, ◌<◌, ◌≤◌, ℕ, min, max, List, ◌++◌, length, take, drop, Option, Some, None, Result, Ok, Err}
 use mathlib.Core.List.{IsPrefix}
 use Rattle.futures.specs.declared.task.Poll.{Poll}
 use Rattle.futures.specs.declared.task.Poll.TheVariants.{Ready, Pending}
@@ -36,10 +36,11 @@ pub record Wrote (a : Told) (bytes : List ℕ) (count : ℕ) (b : Told) : Type 0
   pub is : b ≡ record a { sent = told_more a.sent (take count bytes); sent_count = b.sent_count }
 
 -- a read put `count` bytes at the front of the buffer, at least one if it has room for any, and
--- counted them; nothing else changed
+-- counted them; the buffer behind them is as it was, and nothing else changed
 pub record Gave (a : Told) (buffer filled : List ℕ) (count : ℕ) (b : Told) : Type 0 where
   pub within : count ≤ length buffer
   pub some : 0 < length buffer → 0 < count
+  pub rest : drop count filled ≡ drop count buffer
   pub counted : b.received_count ≡ counted_more a.received_count count
   pub is : b ≡ record a { received = told_more a.received (take count filled); received_count = b.received_count }
 
@@ -67,11 +68,11 @@ AfterWrite a bytes (Ready (Ok count)) b = Wrote a bytes count b
 AfterWrite a bytes (Ready (Err failed)) b = Broke a b
 AfterWrite a bytes Pending b = WaitsToWrite a b
 
--- what a poll for reading did, by its answer
+-- what a poll for reading did, by its answer: if it failed or waits, the buffer is as it was
 abbrev pub AfterRead : Told → List ℕ → List ℕ → Poll (Result ℕ Failed) → Told → Type 0
 AfterRead a buffer filled (Ready (Ok count)) b = Gave a buffer filled count b
-AfterRead a buffer filled (Ready (Err failed)) b = Broke a b
-AfterRead a buffer filled Pending b = WaitsToRead a b
+AfterRead a buffer filled (Ready (Err failed)) b = Broke a b × (filled ≡ buffer)
+AfterRead a buffer filled Pending b = WaitsToRead a b × (filled ≡ buffer)
 
 -- both wires tell their bytes, and what the one has received is a prefix of what the other has sent
 pub record Reaches (from to : Told) : Type 0 where

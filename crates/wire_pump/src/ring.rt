@@ -1,6 +1,6 @@
 //! A ring of bytes, with both of its ends.
 
-ghost use Rattle.std.specs.Prelude.{◌≡◌, ℕ, ◌+◌, ◌≤◌, ◌<◌, [], ◌++◌, length, take, IfOk};
+ghost use Rattle.std.specs.Prelude.{◌≡◌, ℕ, ◌+◌, ◌≤◌, ◌<◌, [], ◌++◌, length, take, drop, IfOk};
 ghost use mathlib.Core.List.{IsPrefix};
 ghost use Rattle.rtrb.specs.Ring.{IsPair, producer_capacity};
 
@@ -43,10 +43,11 @@ impl Ring {
     }
 
     /// Takes the oldest bytes out, as many as there are and as fit in `into`. The answer is how
-    /// many.
+    /// many. Nothing else of `into` is written.
     pub(crate) fn take(&mut self, into: &mut [u8]) -> usize
         ensures within { result ≤ length into.old }
         ensures length { length into.new ≡ length into.old }
+        ensures rest { drop result into.new ≡ drop result into.old }
         ensures taken { taken_from self.new ≡ taken_from self.old ++ take result into.new }
         ensures known { IsPrefix (known_in self.old) (take result into.new ++ known_in self.new) }
         ensures none { result < length into.old → known_in self.new ≡ [] }

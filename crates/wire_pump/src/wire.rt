@@ -40,7 +40,8 @@ pub trait Wire: Drop {
         ensures kept { Keeps cx.old cx.new };
 
     /// Puts the next bytes that came into the front of `into`. The answer is how many: at least one
-    /// if `into` has room for any. The count of bytes received rises by as many.
+    /// if `into` has room for any. The count of bytes received rises by as many. Nothing else of
+    /// `into` is written, and none of it if the call waits or fails.
     ///
     /// It is pending if there are none now. Then the task is registered or already woken, and the
     /// count of waits of reads rose.
