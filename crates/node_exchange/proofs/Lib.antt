@@ -6,4 +6,5 @@ pub mod ComeLaws
 pub mod CarryLaws
 mod BusyLaws
 pub mod TurnLaws
+pub mod WholeLaws
 mod PassLaws

@@ -18,7 +18,7 @@ each_append R [] (v ∷ vs) xs ys h g = absurd h
 each_append R (u ∷ us) [] xs ys h g = absurd h
 each_append R (u ∷ us) (v ∷ vs) xs ys h g = (h.0, each_append R us vs xs ys h.1 g)
 
-empty : {A : Type 0} (xs : List A) → length xs ≤ 0 → xs ≡ []
+pub empty : {A : Type 0} (xs : List A) → length xs ≤ 0 → xs ≡ []
 empty [] le = refl
 empty (x ∷ xs) le = absurd (omega (arith, le))
 

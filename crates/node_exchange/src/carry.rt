@@ -35,6 +35,8 @@ where
     ensures later { IfOk result (λ p. IsPairLater D.W.told D.W.is_joined ends (p.first, p.second)) }
     ensures honest { D.W.is_joined ends.0 ends.1 → HaveAll (D.W.told ends.0) (D.W.told ends.1)
         → IfOk result (IsCarried D.W.told D.W.is_joined there back) }
+    ensures carried { IfOk result (λ p. HaveAll (D.W.told p.first) (D.W.told p.second)
+        → (p.at_second ≡ there) × (p.at_first ≡ back)) }
 {
     let (first, second) = ends;
     if there.as_slice().is_empty() && back.as_slice().is_empty() {

@@ -11,7 +11,8 @@
 //! Each pair of nodes has a pair of wires. [`pass_all`] sends what an exchange drained of each link
 //! over the wires between its nodes, in both directions at once, and adds what came to the links.
 //! Over joined wires, such as those of an honest dialer, exactly what was drained of a link arrives
-//! on it. Over other wires anything may arrive that is made of whole frames of letters.
+//! on it. So it does over wires that tell at the end that each has received all that the other one
+//! has sent. Over other wires anything may arrive that is made of whole frames of letters.
 #![tactic(auto)]
 
 mod busy;

@@ -6,7 +6,7 @@ ghost use Rattle.worker_laws.specs.Cells.{EachAre};
 ghost use Rattle.node_exchange.specs.Passings.{SamePassing, HasReceived, AreAcross, LeadApart, HaveCome, NothingCame, AllCame, letters_of, frames_of};
 ghost use Rattle.node_exchange.specs.Letters.{IsLetter};
 ghost use Rattle.node_exchange.specs.Busy.{IsBusyPart};
-ghost use Rattle.node_exchange.specs.Honest.{AreHonest};
+ghost use Rattle.node_exchange.specs.Honest.{AreHonest, HaveReceivedAll};
 ghost use Rattle.node_exchange.specs.Turned.{AreTurned, lost_by};
 ghost use Rattle.node_exchange.specs.Faults.{HasPassCause, AreTwo, IsByteFault, IsNoDifference, IsNoFailure};
 
@@ -34,7 +34,8 @@ use wire_pump::Dialer;
 /// - [`PassFault::Bytes`] only if the bytes that a node received are not whole frames of letters on
 ///   the links from the other node; it has the first byte that differs from what was sent. It never
 ///   comes if the wires of each pair are joined, each has received all that the other has sent, and
-///   nothing has arrived on the links.
+///   nothing has arrived on the links. Nor does it come if nothing has arrived on the links and,
+///   after the call, each wire tells that it has received all that the other one has sent.
 /// - [`PassFault::NoMemory`] if memory runs out.
 ///
 /// In any case the wires that were used are at the end of the list, in their order. After
@@ -61,6 +62,8 @@ where
     ensures differs { IfErr result (IsByteFault nodes passings.old) }
     ensures honest { AreHonest D.W.told D.W.is_joined wires.old.items → NothingCame passings.old
         → OnOk result (AreHonest D.W.told D.W.is_joined wires.new.items × AllCame passings.new) × IfErr result IsNoDifference }
+    ensures carried { HaveReceivedAll D.W.told wires.new.items → NothingCame passings.old
+        → OnOk result (AllCame passings.new) × IfErr result IsNoDifference }
 {
     let busy = busy_part(passings);
     for first in 0..nodes {
@@ -96,6 +99,8 @@ where
     ensures differs { IfErr result (IsByteFault nodes passings.old) }
     ensures honest { AreHonest D.W.told D.W.is_joined wires.old.items → HaveCome first (first + 1) passings.old
         → OnOk result (AreHonest D.W.told D.W.is_joined wires.new.items × HaveCome (first + 1) (first + 2) passings.new) × IfErr result IsNoDifference }
+    ensures carried { HaveReceivedAll D.W.told wires.new.items → HaveCome first (first + 1) passings.old
+        → OnOk result (HaveCome (first + 1) (first + 2) passings.new) × IfErr result IsNoDifference }
 {
     for second in first + 1..nodes {
         pass_pair(rt, alloc, dialer, wires, passings, busy, first, second)?;
@@ -130,6 +135,8 @@ where
     ensures differs { (nodes : ℕ) → AreTwo nodes first second → IfErr result (IsByteFault nodes passings.old) }
     ensures honest { AreHonest D.W.told D.W.is_joined wires.old.items → HaveCome first second passings.old
         → OnOk result (AreHonest D.W.told D.W.is_joined wires.new.items × HaveCome first (second + 1) passings.new) × IfErr result IsNoDifference }
+    ensures carried { HaveReceivedAll D.W.told wires.new.items → HaveCome first second passings.old
+        → OnOk result (HaveCome first (second + 1) passings.new) × IfErr result IsNoDifference }
 {
     let there = write_part(alloc, passings, busy, first, second)?;
     let back = write_part(alloc, passings, busy, second, first)?;

@@ -7,6 +7,7 @@ use Rattle.node_exchange.proofs.ComeLaws.{none_come, all_come}
 use Rattle.node_exchange.proofs.BusyLaws.{still_busy}
 use Rattle.node_exchange.proofs.PassLaws.{err_on, nothing_on, fault_still, cause_on}
 use Rattle.node_exchange.proofs.TurnLaws.{turned_none, turned_then, turned_long, turned_on}
+use Rattle.node_exchange.proofs.WholeLaws.{turned_back, fault_back}
 use Rattle.node_exchange.proofs.pass.pass_all.Goals as goal
 
 pub loop-first-init : goal.loop-first-init
@@ -17,6 +18,7 @@ loop-first-init g c = record {
   dialer = λ d. d;
   wires_honest = λ h none. h;
   come = λ h none. none_come c.args.passings.now none;
+  carried = λ all none. none_come c.args.passings.now none;
 }
 
 pub pass_from-requires-clause-busy : goal.pass_from-requires-clause-busy
@@ -50,6 +52,14 @@ returns-in_err-pass_from-clause-honest g c = λ h none.
     let i = c.loop-first.invariant in
     (nothing_on c.from_residual.result _ _ c.from_residual.ensures.1, err_on c.from_residual.result _ IsNoDifference c.from_residual.ensures.1 (c.in_err-pass_from.ensures.honest (i.wires_honest h none) (i.come h none)).1)
 
+pub returns-in_err-pass_from-clause-carried : goal.returns-in_err-pass_from-clause-carried
+returns-in_err-pass_from-clause-carried g c = λ all none. (
+  nothing_on c.from_residual.result _ _ c.from_residual.ensures.1,
+  err_on c.from_residual.result _ IsNoDifference c.from_residual.ensures.1
+      (fault_back g.D.W.Wire.told g.D.W.Wire.is_joined _ c.loop-first.wires.items c.pass_from.new.wires.items c.in_err-pass_from.ensures.wires all
+      (λ before. (c.in_err-pass_from.ensures.carried all (c.loop-first.invariant.carried before none)).1)),
+)
+
 pub loop-first-preserved : goal.loop-first-preserved
 loop-first-preserved g c =
     let i = c.loop-first.invariant in
@@ -61,6 +71,9 @@ loop-first-preserved g c =
       dialer = λ d. c.pass_from.ensures.dialer (i.dialer d);
       wires_honest = λ h none. (c.in_ok-pass_from.ensures.honest (i.wires_honest h none) (i.come h none)).0.0;
       come = λ h none. subst (λ n. HaveCome (c.loop-first.first + 1) n c.pass_from.new.passings) (sym next) (c.in_ok-pass_from.ensures.honest (i.wires_honest h none) (i.come h none)).0.1;
+      carried = λ all none.
+          let before = turned_back g.D.W.Wire.told g.D.W.Wire.is_joined c.loop-first.wires.items c.pass_from.new.wires.items c.in_ok-pass_from.ensures.wires all in
+          subst (λ n. HaveCome (c.loop-first.first + 1) n c.pass_from.new.passings) (sym next) (c.in_ok-pass_from.ensures.carried all (i.carried before none)).0;
     }
 
 pub returns-clause-same : goal.returns-clause-same
@@ -82,3 +95,9 @@ returns-clause-honest g c = λ h none.
       (i.wires_honest h none, all_come c.loop-first.first c.args.nodes c.loop-first.passings (omega (arith, test)) (still_across c.args.nodes c.args.passings.now c.loop-first.passings i.same c.requires.across) (i.come h none)),
       tt,
     )
+
+pub returns-clause-carried : goal.returns-clause-carried
+returns-clause-carried g c = λ all none.
+    let i = c.loop-first.invariant in
+    let test = c.loop-first-test.false in
+    (all_come c.loop-first.first c.args.nodes c.loop-first.passings (omega (arith, test)) (still_across c.args.nodes c.args.passings.now c.loop-first.passings i.same c.requires.across) (i.carried all none), tt)

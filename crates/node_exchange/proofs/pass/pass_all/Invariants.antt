@@ -1,7 +1,7 @@
 use Rattle.std.proofs.Common.{◌≡◌, ◌+◌}
 use Rattle.worker_laws.specs.Cells.{EachAre}
 use Rattle.node_exchange.specs.Passings.{SamePassing, HaveCome, NothingCame}
-use Rattle.node_exchange.specs.Honest.{AreHonest}
+use Rattle.node_exchange.specs.Honest.{AreHonest, HaveReceivedAll}
 use Rattle.node_exchange.specs.Turned.{AreTurned}
 use Rattle.node_exchange.proofs.pass.pass_all.Given as goal
 
@@ -13,4 +13,5 @@ invariant-loop-first g l = record {
   dialer : g.D.Dialer.is_honest l.initial.dialer → g.D.Dialer.is_honest l.dialer;
   wires_honest : AreHonest g.D.W.Wire.told g.D.W.Wire.is_joined l.initial.wires.items → NothingCame l.initial.passings → AreHonest g.D.W.Wire.told g.D.W.Wire.is_joined l.wires.items;
   come : AreHonest g.D.W.Wire.told g.D.W.Wire.is_joined l.initial.wires.items → NothingCame l.initial.passings → HaveCome l.first (l.first + 1) l.passings;
+  carried : HaveReceivedAll g.D.W.Wire.told l.wires.items → NothingCame l.initial.passings → HaveCome l.first (l.first + 1) l.passings;
 }

@@ -6,6 +6,7 @@ use Rattle.node_exchange.proofs.ComeLaws.{next_row}
 use Rattle.node_exchange.proofs.BusyLaws.{still_busy}
 use Rattle.node_exchange.proofs.PassLaws.{err_on, nothing_on, fault_still, two_in_order, cause_on}
 use Rattle.node_exchange.proofs.TurnLaws.{turned_none, turned_then, turned_long, turned_on}
+use Rattle.node_exchange.proofs.WholeLaws.{turned_back, fault_back}
 use Rattle.node_exchange.proofs.pass.pass_from.Goals as goal
 
 pub loop-second-init : goal.loop-second-init
@@ -17,6 +18,7 @@ loop-second-init g c = record {
   dialer = λ d. d;
   wires_honest = λ h come. h;
   come = λ h come. come;
+  carried = λ all come. come;
 }
 
 pub pass_pair-requires-clause-busy : goal.pass_pair-requires-clause-busy
@@ -59,6 +61,14 @@ returns-in_err-pass_pair-clause-honest g c = λ h come.
     let i = c.loop-second.invariant in
     (nothing_on c.from_residual.result _ _ c.from_residual.ensures.1, err_on c.from_residual.result _ IsNoDifference c.from_residual.ensures.1 (c.in_err-pass_pair.ensures.honest (i.wires_honest h come) (i.come h come)).1)
 
+pub returns-in_err-pass_pair-clause-carried : goal.returns-in_err-pass_pair-clause-carried
+returns-in_err-pass_pair-clause-carried g c = λ all come. (
+  nothing_on c.from_residual.result _ _ c.from_residual.ensures.1,
+  err_on c.from_residual.result _ IsNoDifference c.from_residual.ensures.1
+      (fault_back g.D.W.Wire.told g.D.W.Wire.is_joined _ c.loop-second.wires.items c.pass_pair.new.wires.items c.in_err-pass_pair.ensures.wires all
+      (λ before. (c.in_err-pass_pair.ensures.carried all (c.loop-second.invariant.carried before come)).1)),
+)
+
 pub loop-second-preserved : goal.loop-second-preserved
 loop-second-preserved g c =
     let i = c.loop-second.invariant in
@@ -71,6 +81,9 @@ loop-second-preserved g c =
       dialer = λ d. c.pass_pair.ensures.dialer (i.dialer d);
       wires_honest = λ h come. (c.in_ok-pass_pair.ensures.honest (i.wires_honest h come) (i.come h come)).0.0;
       come = λ h come. (c.in_ok-pass_pair.ensures.honest (i.wires_honest h come) (i.come h come)).0.1;
+      carried = λ all come.
+          let before = turned_back g.D.W.Wire.told g.D.W.Wire.is_joined c.loop-second.wires.items c.pass_pair.new.wires.items c.in_ok-pass_pair.ensures.wires all in
+          (c.in_ok-pass_pair.ensures.carried all (i.carried before come)).0;
     }
 
 pub returns-clause-same : goal.returns-clause-same
@@ -92,3 +105,9 @@ returns-clause-honest g c = λ h come.
       (i.wires_honest h come, next_row c.args.first c.loop-second.second c.args.nodes c.loop-second.passings (omega (arith, test)) (still_across c.args.nodes c.args.passings.now c.loop-second.passings i.same c.requires.across) (i.come h come)),
       tt,
     )
+
+pub returns-clause-carried : goal.returns-clause-carried
+returns-clause-carried g c = λ all come.
+    let i = c.loop-second.invariant in
+    let test = c.loop-second-test.false in
+    (next_row c.args.first c.loop-second.second c.args.nodes c.loop-second.passings (omega (arith, test)) (still_across c.args.nodes c.args.passings.now c.loop-second.passings i.same c.requires.across) (i.carried all come), tt)

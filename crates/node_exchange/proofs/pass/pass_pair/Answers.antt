@@ -7,6 +7,7 @@ use Rattle.node_exchange.proofs.LetterLaws.{all_same, all_same_then}
 use Rattle.node_exchange.proofs.ReceiveLaws.{still_apart}
 use Rattle.node_exchange.proofs.PassLaws.{err_on, nothing_on, fault_still, turned_two, first_joined, first_all, turned_honest, back_frames, back_letters, turn_come}
 use Rattle.node_exchange.proofs.TurnLaws.{turned_none, turned_less, turned_pair, gone_pair, turned_on, turned_dial}
+use Rattle.node_exchange.proofs.WholeLaws.{last_two}
 use Rattle.node_exchange.proofs.pass.pass_pair.Goals as goal
 
 pub returns-in_err-there-clause-same : goal.returns-in_err-there-clause-same
@@ -76,6 +77,19 @@ returns-in_err-take_in-2-clause-honest g c = λ h come.
     (back_letters c.args.first c.args.second c.args.passings.now c.take_in.new.passings c.take_in.ensures.same c.in_ok-back.ensures.letters) in
     (nothing_on c.from_residual-in_err-take_in-2.result _ _ c.from_residual-in_err-take_in-2.ensures.1, err_on c.from_residual-in_err-take_in-2.result _ IsNoDifference c.from_residual-in_err-take_in-2.ensures.1 two.1)
 
+pub returns-in_err-take_in-clause-carried : goal.returns-in_err-take_in-clause-carried
+returns-in_err-take_in-clause-carried g c = λ all come.
+    let two = c.in_ok-came.ensures.carried (last_two g.D.W.Wire.told g.D.W.Wire.is_joined c.push.new.self.items c.remove-ends.new.self.items c.in_ok-came.came.first c.in_ok-came.came.second c.in_ok-push.ensures.items all) in
+    let came = c.in_err-take_in.ensures.honest (c.as_slice.ensures ∙ two.0 ∙ c.in_ok-there.ensures.frames) c.in_ok-there.ensures.letters in
+    (nothing_on c.from_residual-in_err-take_in.result _ _ c.from_residual-in_err-take_in.ensures.1, err_on c.from_residual-in_err-take_in.result _ IsNoDifference c.from_residual-in_err-take_in.ensures.1 came.1)
+
+pub returns-in_err-take_in-2-clause-carried : goal.returns-in_err-take_in-2-clause-carried
+returns-in_err-take_in-2-clause-carried g c = λ all come.
+    let two = c.in_ok-came.ensures.carried (last_two g.D.W.Wire.told g.D.W.Wire.is_joined c.push.new.self.items c.remove-ends.new.self.items c.in_ok-came.came.first c.in_ok-came.came.second c.in_ok-push.ensures.items all) in
+    let came = c.in_err-take_in-2.ensures.honest (back_frames c.args.first c.args.second c.args.passings.now c.take_in.new.passings c.in_ok-back.back c.as_slice-2.result.now c.take_in.ensures.same (c.as_slice-2.ensures ∙ two.1) c.in_ok-back.ensures.frames)
+    (back_letters c.args.first c.args.second c.args.passings.now c.take_in.new.passings c.take_in.ensures.same c.in_ok-back.ensures.letters) in
+    (nothing_on c.from_residual-in_err-take_in-2.result _ _ c.from_residual-in_err-take_in-2.ensures.1, err_on c.from_residual-in_err-take_in-2.result _ IsNoDifference c.from_residual-in_err-take_in-2.ensures.1 came.1)
+
 pub returns-clause-same : goal.returns-clause-same
 returns-clause-same g c = all_same_then c.args.passings.now c.take_in.new.passings c.take_in-2.new.passings c.take_in.ensures.same c.take_in-2.ensures.same
 
@@ -94,3 +108,11 @@ returns-clause-honest g c = λ h come.
       ),
       tt,
     )
+
+pub returns-clause-carried : goal.returns-clause-carried
+returns-clause-carried g c = λ all come.
+    let two = c.in_ok-came.ensures.carried (last_two g.D.W.Wire.told g.D.W.Wire.is_joined c.push.new.self.items c.remove-ends.new.self.items c.in_ok-came.came.first c.in_ok-came.came.second c.in_ok-push.ensures.items all) in
+    let one = c.in_ok-take_in.ensures.honest (c.as_slice.ensures ∙ two.0 ∙ c.in_ok-there.ensures.frames) c.in_ok-there.ensures.letters in
+    let other = c.in_ok-take_in-2.ensures.honest (back_frames c.args.first c.args.second c.args.passings.now c.take_in.new.passings c.in_ok-back.back c.as_slice-2.result.now c.take_in.ensures.same (c.as_slice-2.ensures ∙ two.1) c.in_ok-back.ensures.frames)
+    (back_letters c.args.first c.args.second c.args.passings.now c.take_in.new.passings c.take_in.ensures.same c.in_ok-back.ensures.letters) in
+    (turn_come c.args.first c.args.second c.requires.across.0 c.args.passings.now c.take_in.new.passings c.take_in-2.new.passings c.requires.order c.requires.across.1 come c.take_in.ensures.same one.0 other.0, tt)
