@@ -9,7 +9,7 @@ ghost use Rattle.cut_dpop.specs.Start.{turn_deliveries};
 
 use crate::crew::Crew;
 use agent_cells::Cell;
-use agent_links::{Agent, Seat, make_each, outcome_of, seats_of};
+use agent_links::{Seat, make_each, outcome_of, seats_of};
 use agent_workers::run;
 use dcop_base::{NoMemory, Problem, problem_is_whole};
 use dcop_edge::Gate;
@@ -53,8 +53,7 @@ fn play_alone<G: Gate>(
     play_out(alloc, gate, problem, start, budget)
 }
 
-/// The same, by workers. This is the only place of this crate that boxes agents; only `run`
-/// receives the boxes.
+/// The same, by workers. Agents are boxed where they are run, since no call may hand boxes out.
 fn run_cells<R: Threads + Sync, G: Gate>(
     crew: &Crew<R, G>,
     alloc: Global,
@@ -69,32 +68,8 @@ fn run_cells<R: Threads + Sync, G: Gate>(
     let make = |seat: Seat| -> Result<Cell, NoMemory>
         ensures { IfOk result (IsNewCell (λ b. meaning (b.vtable, b.value)) (view_of seat.agent) seat.me seat.tails.items seat.heads.items) }
     {
-        let Seat {
-            agent,
-            me,
-            tails,
-            heads,
-        } = seat;
-        match agent {
-            Agent::Token(agent) => {
-                let Ok(machine) = Box::new(alloc, agent) else {
-                    return Err(NoMemory);
-                };
-                Cell::new(alloc, machine, me, tails, heads)
-            }
-            Agent::Dpop(agent) => {
-                let Ok(machine) = Box::new(alloc, agent) else {
-                    return Err(NoMemory);
-                };
-                Cell::new(alloc, machine, me, tails, heads)
-            }
-            Agent::Adopt(agent) => {
-                let Ok(machine) = Box::new(alloc, agent) else {
-                    return Err(NoMemory);
-                };
-                Cell::new(alloc, machine, me, tails, heads)
-            }
-        }
+        let machine = Box::new(alloc, seat.agent)?;
+        Cell::new(alloc, machine, seat.me, seat.tails, seat.heads)
     };
     let budget = 2 * (problem.sizes.as_slice().len() as u64 - 1);
     let seats = seats_of(alloc, problem, start)?;
