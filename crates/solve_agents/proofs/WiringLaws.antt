@@ -1,5 +1,7 @@
 -- How agents are joined, before and behind calls.
-use Rattle.std.proofs.Common.{◌≡◌, ℕ, ◌<◌, ◌≤◌, List, [], length, Option, Result, Ok, Err, IfErr, refl, sym, ap, subst, ◌∙◌}
+use Rattle.std.proofs.Common.{◌≡◌, ℕ, ◌-◌, ◌*◌, ◌<◌, ◌≤◌, List, [], ◌∷◌, length, Option, Result, Ok, Err, IfErr, refl, sym, ap, subst, ◌∙◌, arith}
+use Rattle.std.proofs.lemmas.Nat.{le-div, mul-le}
+use Rattle.std.proofs.lemmas.List.Elements.{All-head}
 use Rattle.std.specs.List.{All}
 use Rattle.std.specs.Result.{IsErrAnd}
 use Rattle.std.specs.declared.dyn_box.DynBox.{DynBox}
@@ -21,11 +23,12 @@ use Rattle.agent_workers.specs.Run.{views_of}
 use Rattle.agent_links.specs.Links.{pairs_to}
 use Rattle.agent_links.specs.Seats.{all_neighbours}
 use Rattle.wire_pump.specs.Wire.{Told}
+use Rattle.wire_pump.specs.Dialer.{IsNew}
 use Rattle.tcp_links.specs.declared.fault.Difference.{Difference}
 use Rattle.tcp_links.specs.declared.fault.NodeFault.{NodeFault}
 use Rattle.tcp_links.specs.declared.fault.NodeFault.TheVariants.{Failed, Differs, NoMemory}
 use Rattle.tcp_links.specs.declared.plan.NodePlan.{NodePlan}
-use Rattle.tcp_links.specs.Plans.{IsBetween, AreOrdered, IsHonest}
+use Rattle.tcp_links.specs.Plans.{pair_count, AreNewWires, IsBetween, AreOrdered, IsHonest, IsNewPlan}
 use Rattle.tcp_links.specs.Ends.{IsDifference, HasComeTo, IsLeftBy}
 use Rattle.tcp_links.specs.Faults.{IsOtherFault, HasNodeCause}
 use Rattle.node_exchange.specs.Honest.{AreHonest}
@@ -34,7 +37,7 @@ use Rattle.node_seats.specs.Seats.{IsSameFrame}
 use Rattle.solve_methods.specs.Dpop.{wide_in}
 use Rattle.solve_agents.specs.Differing.{HaveDiffered}
 use Rattle.solve_agents.specs.Phases.{IsPhase}
-use Rattle.solve_agents.specs.Wiring.{IsNodesFaultOf, MayFail}
+use Rattle.solve_agents.specs.Wiring.{HasNewWire, IsNodesFaultOf, MayFail}
 
 -- a difference that was come to in a phase of one kind, where that is one of another kind
 differed_in : (p : Dcop) (is_phase is_phase' : Start → ℕ → Type 0) (nodes : ℕ) (d : Difference) → ((start : Start) (most : ℕ) → is_phase' start most → is_phase start most) → HaveDiffered p is_phase' nodes d → HaveDiffered p is_phase nodes d
@@ -55,31 +58,31 @@ differed_in p is_phase is_phase' nodes d kind h = record {
   right = h.right;
 }
 
--- a fault behind calls that left the dialer's count as it was, in as many nodes, over links that are honest where these are, in a phase that is of this kind
-module _ (p : Dcop) (is_phase is_phase' : Start → ℕ → Type 0) (nodes nodes' : ℕ) (honest honest' : Type 0) (first old new : ℕ) where
-  fault_behind : (e : NodeFault) → old ≡ first → nodes' ≡ nodes → (honest → honest') → ((start : Start) (most : ℕ) → is_phase' start most → is_phase start most) → IsNodesFaultOf p is_phase' nodes' honest' old new e → IsNodesFaultOf p is_phase nodes honest first new e
+-- a fault behind calls that left the dialer's count as it was, in as many nodes, untrusted where these were, in a phase that is of this kind
+module _ (p : Dcop) (is_phase is_phase' : Start → ℕ → Type 0) (nodes nodes' : ℕ) (untrusted untrusted' : Type 0) (first old new : ℕ) where
+  fault_behind : (e : NodeFault) → old ≡ first → nodes' ≡ nodes → (1 < nodes → untrusted' → untrusted) → ((start : Start) (most : ℕ) → is_phase' start most → is_phase start most) → IsNodesFaultOf p is_phase' nodes' untrusted' old new e → IsNodesFaultOf p is_phase nodes untrusted first new e
   fault_behind Failed still many so kind fails =
       subst (λ (k : ℕ). (1 < nodes) × (k ≤ new) × Rose k new) still (subst (λ (k : ℕ). 1 < k) many fails.0, fails.1, fails.2)
   fault_behind (Differs d) still many so kind fails = (
     subst (λ (k : ℕ). 1 < k) many fails.0,
     fails.1 ∙ still,
-    (λ (h : honest). fails.2 (so h)),
+    so (subst (λ (k : ℕ). 1 < k) many fails.0) fails.2,
     subst (λ (k : ℕ). HaveDiffered p is_phase k d) many (differed_in p is_phase is_phase' nodes' d kind fails.3),
   )
   fault_behind NoMemory still many so kind fails = fails ∙ still
 
   -- so it is with a call
-  pub fails_behind : {T : Type 0} (r : Result T NodeFault) → old ≡ first → nodes' ≡ nodes → (honest → honest') → ((start : Start) (most : ℕ) → is_phase' start most → is_phase start most)
-      → MayFail {T = T} p is_phase' nodes' honest' old new r → MayFail {T = T} p is_phase nodes honest first new r
+  pub fails_behind : {T : Type 0} (r : Result T NodeFault) → old ≡ first → nodes' ≡ nodes → (1 < nodes → untrusted' → untrusted) → ((start : Start) (most : ℕ) → is_phase' start most → is_phase start most)
+      → MayFail {T = T} p is_phase' nodes' untrusted' old new r → MayFail {T = T} p is_phase nodes untrusted first new r
   fails_behind {T} (Ok value) still many so kind fails = fails ∙ still
   fails_behind {T} (Err e) still many so kind fails = fault_behind e still many so kind fails
 
   -- and with a fault that is handed on
-  pub fails_on : {T : Type 0} (r : Result T NodeFault) (e : NodeFault) → IsErrAnd r (λ x. x ≡ e) → old ≡ first → nodes' ≡ nodes → (honest → honest') → ((start : Start) (most : ℕ) → is_phase' start most → is_phase start most)
-      → IsNodesFaultOf p is_phase' nodes' honest' old new e → MayFail {T = T} p is_phase nodes honest first new r
+  pub fails_on : {T : Type 0} (r : Result T NodeFault) (e : NodeFault) → IsErrAnd r (λ x. x ≡ e) → old ≡ first → nodes' ≡ nodes → (1 < nodes → untrusted' → untrusted) → ((start : Start) (most : ℕ) → is_phase' start most → is_phase start most)
+      → IsNodesFaultOf p is_phase' nodes' untrusted' old new e → MayFail {T = T} p is_phase nodes untrusted first new r
   fails_on {T} (Ok value) e is still many so kind fails = absurd is
   fails_on {T} (Err x) e is still many so kind fails =
-      subst (λ (f : NodeFault). IsNodesFaultOf p is_phase nodes honest first new f) (sym is) (fault_behind e still many so kind fails)
+      subst (λ (f : NodeFault). IsNodesFaultOf p is_phase nodes untrusted first new f) (sym is) (fault_behind e still many so kind fails)
 
 -- what is too wide in the tree that was found is so in the depth-first tree
 pub wide_is : (p : Dcop) (paths : List (List ℕ)) (wide : Option Wide) → paths ≡ dfs p → wide ≡ wide_of p paths → wide_in p ≡ wide
@@ -117,8 +120,23 @@ module _ {X : Type 0} {F : X → Type 0} (M : DynBox X Global F → View) {W : T
   }
 
   pub ran_fails : {T : Type 0} (many : 1 < before.nodes) (honest : Type 0) (old new : ℕ) (r : Result T NodeFault) → HasNodeCause old new r → (honest → IfErr r IsOtherFault) → IfErr r (IsLeftBy M workers budget plan made after last)
-      → MayFail {T = T} p (IsPhase start budget) before.nodes honest old new r
+      → MayFail {T = T} p (IsPhase start budget) before.nodes (¬ honest) old new r
   ran_fails many honest old new (Ok value) cause none left = cause
   ran_fails many honest old new (Err Failed) cause none left = (many, cause.0, cause.1)
   ran_fails many honest old new (Err (Differs d)) cause none left = (many, cause, (λ (h : honest). none h), differed d left)
   ran_fails many honest old new (Err NoMemory) cause none left = cause
+
+-- a new plan of more than one node has a new wire
+some_pairs : (nodes : ℕ) → 1 < nodes → 0 < pair_count nodes
+some_pairs nodes many =
+    le-div 1 (nodes * (nodes - 1)) 2 (omega arith) (mul-le 2 1 nodes (nodes - 1) (omega (arith, many)) (omega (arith, many)))
+
+given_in : {W : Type 0} (told : W → Told) (pairs : List (W × W)) → AreNewWires told pairs → 0 < length pairs → HasNewWire told
+given_in {W} told [] new some = absurd (omega (arith, some))
+given_in {W} told (pair ∷ pairs) new some =
+    record { wire = pair.0; new = (All-head (λ (p : W × W). IsNew (told p.0) × IsNew (told p.1)) pair pairs new).0 }
+
+pub given_by : {W : Type 0} (told : W → Told) (plan : NodePlan W) (agents nodes : ℕ) → IsNewPlan agents nodes plan → AreNewWires told plan.wires.items → 1 < nodes → HasNewWire told
+given_by {W} told plan agents nodes new wires many =
+    let count : length plan.wires.items ≡ pair_count nodes = new.plan.wires ∙ ap pair_count new.nodes_are in
+    given_in told plan.wires.items wires (omega (arith, count, some_pairs nodes many))

@@ -5,6 +5,7 @@ use Rattle.dcop_edge.specs.Faults.{Rose}
 use Rattle.dcop_base.specs.Problem.{Dcop}
 use Rattle.delivery_core.specs.declared.start.Start.{Start}
 use Rattle.wire_pump.specs.Wire.{Told}
+use Rattle.wire_pump.specs.Dialer.{IsNew}
 use Rattle.tcp_links.specs.declared.fault.NodeFault.{NodeFault}
 use Rattle.tcp_links.specs.declared.fault.NodeFault.TheVariants.{Failed, Differs, NoMemory}
 use Rattle.tcp_links.specs.Plans.{IsNewPlan, IsHonest}
@@ -30,17 +31,27 @@ module _ {W : Type 0} (told : W → Told) (is_joined : W → W → Type 0) where
   IsHonestWiring Rings = Unit {0}
   IsHonestWiring (Nodes plan) = IsHonest told is_joined plan
 
--- a fault of a problem's agents in this number of nodes, in a phase of this kind; `honest` says
--- that the links between the nodes are honest. The dialer's count of faults rose exactly if the
--- links failed. A difference was found by agents of the problem, and not over honest links. Neither
--- fault happens with one node
+-- there is a wire that is the end of a new stream; code for any type of dialer gets one only from
+-- its dialer
+pub record HasNewWire {W : Type 0} (told : W → Told) : Type 0 where
+  pub wire : W
+  pub new : IsNew (told wire)
+
+-- there is such a wire, and `honest`, which states that the dialer is honest, does not hold
+abbrev pub HasUntrustedWire : {W : Type 0} → (W → Told) → Type 0 → Type 0
+HasUntrustedWire told honest = (¬ honest) × HasNewWire told
+
+-- a fault of a problem's agents in this number of nodes, in a phase of this kind; `untrusted`
+-- states that the wires between the nodes, or the dialer that gave them, are not honest. The
+-- dialer's count of faults rose exactly if the links failed. A difference was found by agents of
+-- the problem, and `untrusted` holds. Neither fault happens with one node
 abbrev pub IsNodesFaultOf : Dcop → (Start → ℕ → Type 0) → ℕ → Type 0 → ℕ → ℕ → NodeFault → Type 0
-IsNodesFaultOf p is_phase nodes honest old new Failed = (1 < nodes) × (old ≤ new) × Rose old new
-IsNodesFaultOf p is_phase nodes honest old new (Differs d) = (1 < nodes) × (new ≡ old) × (¬ honest) × HaveDiffered p is_phase nodes d
-IsNodesFaultOf p is_phase nodes honest old new NoMemory = new ≡ old
+IsNodesFaultOf p is_phase nodes untrusted old new Failed = (1 < nodes) × (old ≤ new) × Rose old new
+IsNodesFaultOf p is_phase nodes untrusted old new (Differs d) = (1 < nodes) × (new ≡ old) × untrusted × HaveDiffered p is_phase nodes d
+IsNodesFaultOf p is_phase nodes untrusted old new NoMemory = new ≡ old
 
 -- a call on a problem's agents leaves the dialer's count of faults unchanged, or ends in such a
 -- fault
 abbrev pub MayFail : {T : Type 0} → Dcop → (Start → ℕ → Type 0) → ℕ → Type 0 → ℕ → ℕ → Result T NodeFault → Type 0
-MayFail p is_phase nodes honest old new (Ok value) = new ≡ old
-MayFail p is_phase nodes honest old new (Err fault) = IsNodesFaultOf p is_phase nodes honest old new fault
+MayFail p is_phase nodes untrusted old new (Ok value) = new ≡ old
+MayFail p is_phase nodes untrusted old new (Err fault) = IsNodesFaultOf p is_phase nodes untrusted old new fault

@@ -6,7 +6,7 @@ ghost use Rattle.minimised_problem.specs.Goal.{problem_solved};
 ghost use Rattle.solve_methods.specs.Dpop.{GivesChosen, HaveAgreed};
 ghost use Rattle.minimised_problem.specs.Found.{IsFound};
 ghost use Rattle.solve_agents.specs.Phases.{IsDpopPhase, IsPhaseByDpop};
-ghost use Rattle.solve_agents.specs.Wiring.{nodes_in, IsWiringFor, IsHonestWiring, MayFail};
+ghost use Rattle.solve_agents.specs.Wiring.{nodes_in, IsWiringFor, IsHonestWiring, HasUntrustedWire, MayFail};
 
 use crate::crew::Crew;
 use crate::nodes::{Wiring, find_over, run_over};
@@ -34,7 +34,7 @@ use wire_pump::Dialer;
 /// With any number of nodes [`NodeFault::NoMemory`] if memory runs out; with one node there is no
 /// other fault. With more, [`NodeFault::Failed`] if the dialer gave no wires or a wire failed,
 /// which its count of faults shows; and [`NodeFault::Differs`] if what a node received differs from
-/// what another one sent, which happens only with a dialer that is not honest.
+/// what another one sent, which happens only if the dialer gave wires and is not honest.
 pub fn choose_for<R, D, G>(
     crew: &Crew<R, G>,
     alloc: Global,
@@ -47,7 +47,7 @@ where
     D: Dialer,
     G: Gate,
     ensures chosen { IfOk result (GivesChosen (problem_solved file.now) certified) }
-    ensures links { MayFail (problem_solved file.now) (IsPhaseByDpop (problem_solved file.now)) crew.now.nodes (D.is_honest dialer.old) (D.faults dialer.old) (D.faults dialer.new) result }
+    ensures links { MayFail (problem_solved file.now) (IsPhaseByDpop (problem_solved file.now)) crew.now.nodes (HasUntrustedWire D.W.told (D.is_honest dialer.old)) (D.faults dialer.old) (D.faults dialer.new) result }
 {
     let solved = ProblemSolved::of(alloc, file)?;
     let problem = solved.problem();
@@ -71,7 +71,7 @@ where
     G: Gate,
     requires wiring { IsWiringFor (length problem.now.sizes) wiring.old }
     ensures chosen { IfOk result (GivesChosen problem.now certified) }
-    ensures links { MayFail problem.now (IsPhaseByDpop problem.now) (nodes_in wiring.old) (IsHonestWiring D.W.told D.W.is_joined wiring.old) (D.faults dialer.old) (D.faults dialer.new) result }
+    ensures links { MayFail problem.now (IsPhaseByDpop problem.now) (nodes_in wiring.old) (¬ IsHonestWiring D.W.told D.W.is_joined wiring.old) (D.faults dialer.old) (D.faults dialer.new) result }
 {
     let found = find_over(crew, alloc, dialer, wiring, problem)?;
     match widths(&found.tree, problem) {
@@ -102,7 +102,7 @@ where
     requires wiring { IsWiringFor (length problem.now.sizes) wiring.old }
     ensures asked { IfOk result (λ chosen. is_some chosen.certificate ≡ certified) }
     ensures agreed { IfOk result (HaveAgreed problem.now) }
-    ensures links { MayFail problem.now (IsDpopPhase problem.now) (nodes_in wiring.old) (IsHonestWiring D.W.told D.W.is_joined wiring.old) (D.faults dialer.old) (D.faults dialer.new) result }
+    ensures links { MayFail problem.now (IsDpopPhase problem.now) (nodes_in wiring.old) (¬ IsHonestWiring D.W.told D.W.is_joined wiring.old) (D.faults dialer.old) (D.faults dialer.new) result }
 {
     let rows = node_rows_if(alloc, certified, &found.tree)?;
     let budget = choice_deliveries(problem);

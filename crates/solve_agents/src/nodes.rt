@@ -9,7 +9,7 @@ ghost use Rattle.minimised_problem.specs.Found.{IsFound};
 ghost use Rattle.solve_methods.specs.Kept.{HaveLogged};
 ghost use Rattle.tcp_links.specs.Plans.{IsNewPlan, IsHonest};
 ghost use Rattle.solve_agents.specs.Phases.{IsNoPhase, IsPhase, IsSearchPhase};
-ghost use Rattle.solve_agents.specs.Wiring.{nodes_in, IsWiringFor, IsHonestWiring, MayFail};
+ghost use Rattle.solve_agents.specs.Wiring.{nodes_in, IsWiringFor, IsHonestWiring, HasNewWire, HasUntrustedWire, MayFail};
 
 use crate::agents::{logged_of, run_logged};
 use crate::crew::Crew;
@@ -61,7 +61,8 @@ impl<W: Wire> Wiring<W> {
         ensures wiring { IfOk result (IsWiringFor (length problem.now.sizes)) }
         ensures nodes { IfOk result (λ wiring. nodes_in wiring ≡ crew.now.nodes) }
         ensures honest { D.is_honest dialer.old → IfOk result (IsHonestWiring W.told W.is_joined) }
-        ensures links { MayFail problem.now IsNoPhase crew.now.nodes (D.is_honest dialer.old) (D.faults dialer.old) (D.faults dialer.new) result }
+        ensures given { OnOk result (1 < crew.now.nodes → HasNewWire W.told) }
+        ensures links { MayFail problem.now IsNoPhase crew.now.nodes (HasUntrustedWire W.told (D.is_honest dialer.old)) (D.faults dialer.old) (D.faults dialer.new) result }
     {
         if crew.nodes == 1 {
             return Ok(Wiring::Rings);
@@ -103,7 +104,7 @@ where
     ensures wiring { OnOk result (IsWiringFor (length problem.now.sizes) wiring.new) }
     ensures nodes { OnOk result (nodes_in wiring.new ≡ nodes_in wiring.old) }
     ensures honest { IsHonestWiring D.W.told D.W.is_joined wiring.old → OnOk result (IsHonestWiring D.W.told D.W.is_joined wiring.new) }
-    ensures links { MayFail problem.now (IsPhase start.now budget) (nodes_in wiring.old) (IsHonestWiring D.W.told D.W.is_joined wiring.old) (D.faults dialer.old) (D.faults dialer.new) result }
+    ensures links { MayFail problem.now (IsPhase start.now budget) (nodes_in wiring.old) (¬ IsHonestWiring D.W.told D.W.is_joined wiring.old) (D.faults dialer.old) (D.faults dialer.new) result }
 {
     match wiring {
         Wiring::Rings => Ok(run_logged(crew, alloc, problem, start, budget, certified)?),
@@ -133,7 +134,7 @@ where
     ensures logged { IfOk result (HaveLogged budget (agents_of problem.now start.now) certified) }
     ensures plan { OnOk result (IsNewPlan (length problem.now.sizes) plan.old.nodes plan.new) }
     ensures honest { IsHonest D.W.told D.W.is_joined plan.old → OnOk result (IsHonest D.W.told D.W.is_joined plan.new) }
-    ensures links { MayFail problem.now (IsPhase start.now budget) plan.old.nodes (IsHonest D.W.told D.W.is_joined plan.old) (D.faults dialer.old) (D.faults dialer.new) result }
+    ensures links { MayFail problem.now (IsPhase start.now budget) plan.old.nodes (¬ IsHonest D.W.told D.W.is_joined plan.old) (D.faults dialer.old) (D.faults dialer.new) result }
 {
     cells_tell_outcomes();
     journals_merge();
@@ -201,7 +202,7 @@ where
     ensures wiring { OnOk result (IsWiringFor (length problem.now.sizes) wiring.new) }
     ensures nodes { OnOk result (nodes_in wiring.new ≡ nodes_in wiring.old) }
     ensures honest { IsHonestWiring D.W.told D.W.is_joined wiring.old → OnOk result (IsHonestWiring D.W.told D.W.is_joined wiring.new) }
-    ensures links { MayFail problem.now (IsSearchPhase problem.now) (nodes_in wiring.old) (IsHonestWiring D.W.told D.W.is_joined wiring.old) (D.faults dialer.old) (D.faults dialer.new) result }
+    ensures links { MayFail problem.now (IsSearchPhase problem.now) (nodes_in wiring.old) (¬ IsHonestWiring D.W.told D.W.is_joined wiring.old) (D.faults dialer.old) (D.faults dialer.new) result }
 {
     let budget = search_deliveries(problem);
     let ran = run_over(

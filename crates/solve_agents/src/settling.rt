@@ -5,7 +5,7 @@ ghost use Rattle.dcop_base.specs.Limits.{amount_limit, budget_limit};
 ghost use Rattle.minimised_problem.specs.Goal.{problem_solved};
 ghost use Rattle.solve_methods.specs.Auto.{GivesSettled};
 ghost use Rattle.solve_agents.specs.Phases.{IsPhaseByAuto};
-ghost use Rattle.solve_agents.specs.Wiring.{nodes_in, IsWiringFor, IsHonestWiring, MayFail};
+ghost use Rattle.solve_agents.specs.Wiring.{nodes_in, IsWiringFor, IsHonestWiring, HasUntrustedWire, MayFail};
 
 use crate::choosing::choose_on;
 use crate::crew::Crew;
@@ -34,7 +34,7 @@ use wire_pump::Dialer;
 /// With any number of nodes [`NodeFault::NoMemory`] if memory runs out; with one node there is no
 /// other fault. With more, [`NodeFault::Failed`] if the dialer gave no wires or a wire failed,
 /// which its count of faults shows; and [`NodeFault::Differs`] if what a node received differs from
-/// what another one sent, which happens only with a dialer that is not honest.
+/// what another one sent, which happens only if the dialer gave wires and is not honest.
 pub fn settle_for<R, D, G>(
     crew: &Crew<R, G>,
     alloc: Global,
@@ -49,7 +49,7 @@ where
     requires error { asked.error ≤ amount_limit }
     requires budget { asked.budget ≤ budget_limit }
     ensures settled { IfOk result (GivesSettled (problem_solved file.now) asked.error asked.budget asked.certified) }
-    ensures links { MayFail (problem_solved file.now) (IsPhaseByAuto (problem_solved file.now) asked.error asked.budget) crew.now.nodes (D.is_honest dialer.old) (D.faults dialer.old) (D.faults dialer.new) result }
+    ensures links { MayFail (problem_solved file.now) (IsPhaseByAuto (problem_solved file.now) asked.error asked.budget) crew.now.nodes (HasUntrustedWire D.W.told (D.is_honest dialer.old)) (D.faults dialer.old) (D.faults dialer.new) result }
 {
     let solved = ProblemSolved::of(alloc, file)?;
     let problem = solved.problem();
@@ -75,7 +75,7 @@ where
     requires budget { asked.budget ≤ budget_limit }
     requires wiring { IsWiringFor (length problem.now.sizes) wiring.old }
     ensures settled { IfOk result (GivesSettled problem.now asked.error asked.budget asked.certified) }
-    ensures links { MayFail problem.now (IsPhaseByAuto problem.now asked.error asked.budget) (nodes_in wiring.old) (IsHonestWiring D.W.told D.W.is_joined wiring.old) (D.faults dialer.old) (D.faults dialer.new) result }
+    ensures links { MayFail problem.now (IsPhaseByAuto problem.now asked.error asked.budget) (nodes_in wiring.old) (¬ IsHonestWiring D.W.told D.W.is_joined wiring.old) (D.faults dialer.old) (D.faults dialer.new) result }
 {
     let found = find_over(crew, alloc, dialer, wiring, problem)?;
     match widths(&found.tree, problem) {

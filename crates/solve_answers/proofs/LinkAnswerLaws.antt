@@ -40,9 +40,9 @@ solved-sizes Min p = refl
 solved-sizes Max p = refl
 
 -- the answer to a fault of the agents of the problem solved
-module _ (file : TextFile) (task : FileTask) (nodes : ℕ) (honest : Type 0) (old new : ℕ) where
+module _ (file : TextFile) (task : FileTask) (nodes : ℕ) (untrusted : Type 0) (old new : ℕ) where
   -- the agents at the ends of a link have names
-  pub fault_named : (e : NodeFault) → length file.names ≡ length file.problem.sizes → IsNodesFaultOf (problem_solved file) (IsPhaseOf task (problem_solved file)) nodes honest old new e → IsFaultNamed (length file.names) e
+  pub fault_named : (e : NodeFault) → length file.names ≡ length file.problem.sizes → IsNodesFaultOf (problem_solved file) (IsPhaseOf task (problem_solved file)) nodes untrusted old new e → IsFaultNamed (length file.names) e
   fault_named Failed named fails = tt
   fault_named (Differs d) named fails =
       let count : length (problem_solved file).sizes ≡ length file.names = solved-sizes file.goal file.problem ∙ sym named in
@@ -52,7 +52,7 @@ module _ (file : TextFile) (task : FileTask) (nodes : ℕ) (honest : Type 0) (ol
   fault_named no_memory named fails = tt
 
   -- it is an answer about the links
-  pub fault_belongs : (P : Answer → Type 0) (e : NodeFault) (r : Result Answer NoMemory) → IsProblem file.problem → IsNodesFaultOf (problem_solved file) (IsPhaseOf task (problem_solved file)) nodes honest old new e → TellsNodeFault file.names e r
+  pub fault_belongs : (P : Answer → Type 0) (e : NodeFault) (r : Result Answer NoMemory) → IsProblem file.problem → IsNodesFaultOf (problem_solved file) (IsPhaseOf task (problem_solved file)) nodes untrusted old new e → TellsNodeFault file.names e r
       → IfOk r (IsAnswerIn task nodes (declared_by file) P)
   fault_belongs P Failed r whole fails told = subst (λ (x : Result Answer NoMemory). IfOk x (IsAnswerIn task nodes (declared_by file) P)) (sym told) (inr (fails.0, inl refl))
   fault_belongs P (Differs d) (Ok answer) whole fails told = inr (
@@ -71,8 +71,8 @@ module _ (file : TextFile) (task : FileTask) (nodes : ℕ) (honest : Type 0) (ol
   fault_belongs P no_memory (Err refused) whole fails told = tt
 
   -- it says of them what the fault says
-  pub fault_tells : (e : NodeFault) (r : Result Answer NoMemory) → IsNodesFaultOf (problem_solved file) (IsPhaseOf task (problem_solved file)) nodes honest old new e → TellsNodeFault file.names e r → TellsLinks (1 < nodes) honest old new r
-  fault_tells Failed r fails told = subst (λ (x : Result Answer NoMemory). TellsLinks (1 < nodes) honest old new x) (sym told) (record {
+  pub fault_tells : (e : NodeFault) (r : Result Answer NoMemory) → IsNodesFaultOf (problem_solved file) (IsPhaseOf task (problem_solved file)) nodes untrusted old new e → TellsNodeFault file.names e r → TellsLinks (1 < nodes) untrusted old new r
+  fault_tells Failed r fails told = subst (λ (x : Result Answer NoMemory). TellsLinks (1 < nodes) untrusted old new x) (sym told) (record {
     failed = λ e. fails;
     differs = λ e. absurd (cc e);
     quiet = λ other. absurd (other refl);
@@ -115,8 +115,8 @@ drill_answers drill nodes file answer made right is = on (subst (λ (f : TextFil
   on (inr links) =
       inr (links.0, subst (λ (a : Answer). IsOfLinks drill.task nodes (declared_by (made_for drill)) a) (sym (drilled-links drill.task drill.seed nodes (declared_by (made_for drill)) answer links.1)) links.1)
 
-pub drill_tells : (seed : ℕ) (many honest : Type 0) (old new : ℕ) (answer : Answer) → TellsAnswer many honest old new answer → TellsAnswer many honest old new (drilled seed answer)
-drill_tells seed many honest old new answer tells =
+pub drill_tells : (seed : ℕ) (many untrusted : Type 0) (old new : ℕ) (answer : Answer) → TellsAnswer many untrusted old new answer → TellsAnswer many untrusted old new (drilled seed answer)
+drill_tells seed many untrusted old new answer tells =
     let same = drilled-status seed answer in
     record {
       failed = λ e. tells.failed (sym same ∙ e);
@@ -125,11 +125,11 @@ drill_tells seed many honest old new answer tells =
     }
 
 -- what an answer says about links, if words ask for this many nodes
-pub asks_tells : (words : List (List ℕ)) (command : Command) (nodes : ℕ) (honest : Type 0) (old new : ℕ) (r : Result Answer NoMemory) → answer_to words ≡ Ok command → (1 < nodes → nodes ≡ nodes_of command)
-    → TellsLinks (1 < nodes) honest old new r → TellsLinks (AskForNodes words) honest old new r
-asks_tells words command nodes honest old new (Ok answer) asked so_many tells = record {
+pub asks_tells : (words : List (List ℕ)) (command : Command) (nodes : ℕ) (untrusted : Type 0) (old new : ℕ) (r : Result Answer NoMemory) → answer_to words ≡ Ok command → (1 < nodes → nodes ≡ nodes_of command)
+    → TellsLinks (1 < nodes) untrusted old new r → TellsLinks (AskForNodes words) untrusted old new r
+asks_tells words command nodes untrusted old new (Ok answer) asked so_many tells = record {
   failed = λ e. let t = tells.failed e in (asks_nodes words command nodes asked so_many t.0, t.1, t.2);
   differs = λ e. let t = tells.differs e in (asks_nodes words command nodes asked so_many t.0, t.1);
   quiet = tells.quiet;
 }
-asks_tells words command nodes honest old new (Err refused) asked so_many tells = tells
+asks_tells words command nodes untrusted old new (Err refused) asked so_many tells = tells

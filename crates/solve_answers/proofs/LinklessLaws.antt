@@ -175,30 +175,30 @@ edits-linkless bytes (Ok parts) answer e is = edited-linkless is.file (lines_in 
 edits-linkless bytes (Err refusal) answer e is = front-linkless Own bytes refusal answer e is
 
 -- such an answer, if the dialer is as it was
-module _ (many honest : Type 0) (old new : ℕ) (still : new ≡ old) where
-  pub linkless-tells : (answer : Answer) → TellsNoLink answer → TellsAnswer many honest old new answer
+module _ (many untrusted : Type 0) (old new : ℕ) (still : new ≡ old) where
+  pub linkless-tells : (answer : Answer) → TellsNoLink answer → TellsAnswer many untrusted old new answer
   linkless-tells answer none = record {
     failed = λ e. absurd (subst IsLinkless e none);
     differs = λ e. absurd (subst IsLinkless e none);
     quiet = λ other. still;
   }
 
-  pub result-tells : (r : Result Answer NoMemory) → IfOk r TellsNoLink → TellsLinks many honest old new r
+  pub result-tells : (r : Result Answer NoMemory) → IfOk r TellsNoLink → TellsLinks many untrusted old new r
   result-tells (Ok answer) none = linkless-tells answer none
   result-tells (Err refused) none = still
 
-  pub file-tells : (task : FileTask) (t : DeclaredInput) (r : Result Answer NoMemory) → IfOk r (IsFileAnswer task t) → TellsLinks many honest old new r
+  pub file-tells : (task : FileTask) (t : DeclaredInput) (r : Result Answer NoMemory) → IfOk r (IsFileAnswer task t) → TellsLinks many untrusted old new r
   file-tells task t (Ok answer) is = linkless-tells answer (file-linkless task t answer is)
   file-tells task t (Err refused) is = still
 
-  pub report-tells : (format : Format) (bytes : List ℕ) (r : Result Answer NoMemory) → IfOk r (IsReportAnswer bytes (front_read format bytes)) → TellsLinks many honest old new r
+  pub report-tells : (format : Format) (bytes : List ℕ) (r : Result Answer NoMemory) → IfOk r (IsReportAnswer bytes (front_read format bytes)) → TellsLinks many untrusted old new r
   report-tells format bytes (Ok answer) is = linkless-tells answer (report-linkless format bytes (front_read format bytes) answer refl is)
   report-tells format bytes (Err refused) is = still
 
-  pub replay-tells : (format : Format) (bytes : List ℕ) (after : Option ℕ) (r : Result Answer NoMemory) → IfOk r (IsReplayAnswer bytes after (front_read format bytes)) → TellsLinks many honest old new r
+  pub replay-tells : (format : Format) (bytes : List ℕ) (after : Option ℕ) (r : Result Answer NoMemory) → IfOk r (IsReplayAnswer bytes after (front_read format bytes)) → TellsLinks many untrusted old new r
   replay-tells format bytes after (Ok answer) is = linkless-tells answer (behind-linkless format bytes after (front_read format bytes) answer refl is)
   replay-tells format bytes after (Err refused) is = still
 
-  pub edits-tells : (bytes : List ℕ) (r : Result Answer NoMemory) → IfOk r (IsEditsAnswer bytes (front_read Own bytes)) → TellsLinks many honest old new r
+  pub edits-tells : (bytes : List ℕ) (r : Result Answer NoMemory) → IfOk r (IsEditsAnswer bytes (front_read Own bytes)) → TellsLinks many untrusted old new r
   edits-tells bytes (Ok answer) is = linkless-tells answer (edits-linkless bytes (front_read Own bytes) answer refl is)
   edits-tells bytes (Err refused) is = still

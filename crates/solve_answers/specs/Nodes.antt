@@ -118,16 +118,16 @@ abbrev pub IsUnreadAnswerIn : ℕ → Option Drilled → Answer → Type 0
 IsUnreadAnswerIn nodes (Some drill) answer = IsAnswerIn drill.task nodes (declared_by (made_for drill)) (IsDrillAnswer drill) answer
 IsUnreadAnswerIn nodes None answer = IsUnreadAnswer None answer
 
--- what an answer says about links: `many` states that there is more than one node, `honest` that
--- the dialer is honest; if the answer is that links failed, `many` holds and the dialer's count of
--- faults rose, and otherwise that count is unchanged; if it is that links differ, `many` holds and
--- `honest` does not
-pub record TellsAnswer (many honest : Type 0) (old new : ℕ) (answer : Answer) : Type 0 where
+-- what an answer says about links: `many` states that there is more than one node, `untrusted` that
+-- the dialer gave wires and is not honest; if the answer is that links failed, `many` holds and the
+-- dialer's count of faults rose, and otherwise that count is unchanged; if it is that links differ,
+-- `many` and `untrusted` hold
+pub record TellsAnswer (many untrusted : Type 0) (old new : ℕ) (answer : Answer) : Type 0 where
   pub failed : status_of answer ≡ LinkFault → many × (old ≤ new) × Rose old new
-  pub differs : status_of answer ≡ LinkDiffers → many × (¬ honest)
+  pub differs : status_of answer ≡ LinkDiffers → many × untrusted
   pub quiet : status_of answer ≢ LinkFault → new ≡ old
 
 -- the same for a call that may run out of memory, which leaves the count as it was
 abbrev pub TellsLinks : Type 0 → Type 0 → ℕ → ℕ → Result Answer NoMemory → Type 0
-TellsLinks many honest old new (Ok answer) = TellsAnswer many honest old new answer
-TellsLinks many honest old new (Err refused) = new ≡ old
+TellsLinks many untrusted old new (Ok answer) = TellsAnswer many untrusted old new answer
+TellsLinks many untrusted old new (Err refused) = new ≡ old

@@ -6,6 +6,7 @@ ghost use Rattle.solve_report.specs.AnswerText.{HasText};
 ghost use Rattle.problem_text.specs.Steps.{declared_by};
 ghost use Rattle.solve_methods.specs.Goal.{TellsRight};
 ghost use Rattle.answer_io.specs.Input.{Took, read_limit, source_state};
+ghost use Rattle.solve_agents.specs.Wiring.{HasUntrustedWire};
 ghost use Rattle.solve_answers.specs.Answering.{IsFileAnswer, IsTextAnswer, IsReportAnswer, IsTaskAnswer, IsUpgraded};
 ghost use Rattle.solve_answers.specs.Nodes.{AskForNodes, IsAnswerIn, IsAnswerRead, IsTaskAnswerIn, TellsLinks};
 ghost use Rattle.solve_answers.specs.Served.{IsTaskInRange, IsFileTaskInRange};
@@ -61,7 +62,7 @@ where
         (source_state (S.left source.old) (S.faults source.old) (S.gave source.old))
         (source_state (S.left source.new) (S.faults source.new) (S.gave source.new))) }
     ensures told { IfOk result HasText }
-    ensures links { TellsLinks (AskForNodes (map string_bytes words.now)) (D.is_honest dialer.old) (D.faults dialer.old) (D.faults dialer.new) result }
+    ensures links { TellsLinks (AskForNodes (map string_bytes words.now)) (HasUntrustedWire D.W.told (D.is_honest dialer.old)) (D.faults dialer.old) (D.faults dialer.new) result }
     ensures quiet { OnErr result (S.faults source.new ≡ S.faults source.old) }
     ensures taken { Took 0 (input_limit + read_limit)
         (source_state (S.left source.old) (S.faults source.old) (S.gave source.old))
@@ -106,7 +107,7 @@ where
     requires range { IsTaskInRange task }
     requires short { length bytes ≤ input_limit }
     ensures belongs { IfOk result (IsTaskAnswerIn crew.now.nodes task bytes) }
-    ensures links { TellsLinks (1 < crew.now.nodes) (D.is_honest dialer.old) (D.faults dialer.old) (D.faults dialer.new) result }
+    ensures links { TellsLinks (1 < crew.now.nodes) (HasUntrustedWire D.W.told (D.is_honest dialer.old)) (D.faults dialer.old) (D.faults dialer.new) result }
     ensures right { IfOk result TellsRight }
     ensures told { IfOk result HasText }
 {
@@ -133,7 +134,7 @@ where
     G: Gate,
     requires range { IsFileTaskInRange task }
     ensures belongs { IfOk result (IsAnswerRead task crew.now.nodes (input_read format bytes) (IsTextAnswer task (input_read format bytes))) }
-    ensures links { TellsLinks (1 < crew.now.nodes) (D.is_honest dialer.old) (D.faults dialer.old) (D.faults dialer.new) result }
+    ensures links { TellsLinks (1 < crew.now.nodes) (HasUntrustedWire D.W.told (D.is_honest dialer.old)) (D.faults dialer.old) (D.faults dialer.new) result }
     ensures right { IfOk result TellsRight }
     ensures told { IfOk result HasText }
 {
@@ -167,7 +168,7 @@ where
     G: Gate,
     requires range { IsFileTaskInRange task }
     ensures belongs { IfOk result (IsAnswerIn task crew.now.nodes (declared_by read.file) (IsFileAnswer task (told_of read.file read.bar))) }
-    ensures links { TellsLinks (1 < crew.now.nodes) (D.is_honest dialer.old) (D.faults dialer.old) (D.faults dialer.new) result }
+    ensures links { TellsLinks (1 < crew.now.nodes) (HasUntrustedWire D.W.told (D.is_honest dialer.old)) (D.faults dialer.old) (D.faults dialer.new) result }
     ensures right { IfOk result TellsRight }
     ensures told { IfOk result HasText }
 {

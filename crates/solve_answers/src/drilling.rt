@@ -4,6 +4,7 @@ ghost use Rattle.std.specs.Prelude.{◌≡◌, ◌<◌, Some, None, IfOk, IfSome
 ghost use Rattle.solve_report.specs.AnswerText.{HasText};
 ghost use Rattle.solve_methods.specs.Goal.{TellsRight};
 ghost use Rattle.solve_words.specs.Ranges.{IsInRange};
+ghost use Rattle.solve_agents.specs.Wiring.{HasUntrustedWire};
 ghost use Rattle.solve_answers.specs.Nodes.{IsUnreadAnswerIn, TellsLinks};
 ghost use Rattle.solve_answers.specs.Drilling.{drill_of, IsDrillInRange};
 ghost use Rattle.solve_answers.specs.Served.{task_of};
@@ -91,7 +92,7 @@ where
     requires range { IsInRange command.now }
     requires unread { task_of command.now ≡ None }
     ensures belongs { IfOk result (IsUnreadAnswerIn crew.now.nodes (drill_of command.now)) }
-    ensures links { TellsLinks (1 < crew.now.nodes) (D.is_honest dialer.old) (D.faults dialer.old) (D.faults dialer.new) result }
+    ensures links { TellsLinks (1 < crew.now.nodes) (HasUntrustedWire D.W.told (D.is_honest dialer.old)) (D.faults dialer.old) (D.faults dialer.new) result }
     ensures right { IfOk result TellsRight }
     ensures told { IfOk result HasText }
 {
@@ -115,7 +116,7 @@ where
     G: Gate,
     requires { IsDrillInRange drill }
     ensures belongs { IfOk result (IsUnreadAnswerIn crew.now.nodes (Some drill)) }
-    ensures links { TellsLinks (1 < crew.now.nodes) (D.is_honest dialer.old) (D.faults dialer.old) (D.faults dialer.new) result }
+    ensures links { TellsLinks (1 < crew.now.nodes) (HasUntrustedWire D.W.told (D.is_honest dialer.old)) (D.faults dialer.old) (D.faults dialer.new) result }
     ensures right { IfOk result TellsRight }
     ensures told { IfOk result HasText }
 {

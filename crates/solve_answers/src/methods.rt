@@ -9,6 +9,7 @@ ghost use Rattle.solve_methods.specs.Auto.{AnswersAuto};
 ghost use Rattle.solve_methods.specs.Dpop.{AnswersDpop};
 ghost use Rattle.solve_methods.specs.Goal.{TellsRight};
 ghost use Rattle.solve_methods.specs.Tree.{AnswersTree};
+ghost use Rattle.solve_agents.specs.Wiring.{HasUntrustedWire};
 ghost use Rattle.solve_answers.specs.Nodes.{IsAnswerIn, TellsLinks};
 
 use crate::linking::fault_told;
@@ -55,7 +56,7 @@ where
     D: Dialer,
     G: Gate,
     ensures belongs { IfOk result (IsAnswerIn (FileTask.Dpop certified) crew.now.nodes (declared_by file) (AnswersDpop (declared_by file) certified)) }
-    ensures links { TellsLinks (1 < crew.now.nodes) (D.is_honest dialer.old) (D.faults dialer.old) (D.faults dialer.new) result }
+    ensures links { TellsLinks (1 < crew.now.nodes) (HasUntrustedWire D.W.told (D.is_honest dialer.old)) (D.faults dialer.old) (D.faults dialer.new) result }
     ensures right { IfOk result TellsRight }
     ensures told { IfOk result HasText }
 {
@@ -82,7 +83,7 @@ where
     requires error { asked.error ≤ amount_limit }
     requires budget { asked.budget ≤ budget_limit }
     ensures belongs { IfOk result (IsAnswerIn (FileTask.Adopt asked.error asked.budget asked.certified) crew.now.nodes (declared_by file) (AnswersAdopt (declared_by file) asked.error asked.budget asked.certified)) }
-    ensures links { TellsLinks (1 < crew.now.nodes) (D.is_honest dialer.old) (D.faults dialer.old) (D.faults dialer.new) result }
+    ensures links { TellsLinks (1 < crew.now.nodes) (HasUntrustedWire D.W.told (D.is_honest dialer.old)) (D.faults dialer.old) (D.faults dialer.new) result }
     ensures right { IfOk result TellsRight }
     ensures told { IfOk result HasText }
 {
@@ -108,7 +109,7 @@ where
     requires error { asked.error ≤ amount_limit }
     requires budget { asked.budget ≤ budget_limit }
     ensures belongs { IfOk result (IsAnswerIn (FileTask.Auto asked.error asked.budget asked.certified) crew.now.nodes (declared_by file) (AnswersAuto (declared_by file) asked.error asked.budget asked.certified)) }
-    ensures links { TellsLinks (1 < crew.now.nodes) (D.is_honest dialer.old) (D.faults dialer.old) (D.faults dialer.new) result }
+    ensures links { TellsLinks (1 < crew.now.nodes) (HasUntrustedWire D.W.told (D.is_honest dialer.old)) (D.faults dialer.old) (D.faults dialer.new) result }
     ensures right { IfOk result TellsRight }
     ensures told { IfOk result HasText }
 {

@@ -45,16 +45,16 @@ is-link LinkDiffers = inr (λ e. cc e)
 is-link TooMany = inr (λ e. cc e)
 
 -- the status of the call says about links what the answer says
-module _ (words : List (List ℕ)) (honest : Type 0) (old new : ℕ) (answer : Answer) (tells : TellsAnswer (AskForNodes words) honest old new answer) where
+module _ (words : List (List ℕ)) (untrusted : Type 0) (old new : ℕ) (answer : Answer) (tells : TellsAnswer (AskForNodes words) untrusted old new answer) where
   -- an answer says nothing about the links of a dialer that is honest and has not failed
   unfailed : ¬ Rose old new → status_of answer ≢ LinkFault
   unfailed still failed = still (tells.failed failed).2
 
-  alike : (AskForNodes words → honest) → status_of answer ≢ LinkDiffers
-  alike so differs = let t = tells.differs differs in t.1 (so t.0)
+  alike : (AskForNodes words → ¬ untrusted) → status_of answer ≢ LinkDiffers
+  alike so differs = let t = tells.differs differs in so t.0 t.1
 
   module _ (sink sink' : SinkState) (faults faults' : ℕ) (status : Status) (shown : ShowsAnswer answer sink sink' faults faults' status) where
-    pub solved-so : (source source' : SourceState) → Answered words source source' answer → status ≢ NoMemory → Solves words honest old new source source' sink sink' status
+    pub solved-so : (source source' : SourceState) → Answered words source source' answer → status ≢ NoMemory → Solves words untrusted old new source source' sink sink' status
     solved-so source source' answered some = record {
       answer = answer;
       answered = answered;
@@ -65,7 +65,7 @@ module _ (words : List (List ℕ)) (honest : Type 0) (old new : ℕ) (answer : A
     pub link-so : status ≡ LinkFault → AskForNodes words × Rose old new
     link-so fault = let t = tells.failed (shows.told-so LinkFault (λ e. cc e) (λ e. cc e) answer sink sink' faults faults' status shown fault) in (t.0, t.2)
 
-    pub differs-so : status ≡ LinkDiffers → AskForNodes words × (¬ honest)
+    pub differs-so : status ≡ LinkDiffers → AskForNodes words × untrusted
     differs-so fault = tells.differs (shows.told-so LinkDiffers (λ e. cc e) (λ e. cc e) answer sink sink' faults faults' status shown fault)
 
     pub dialer-stays : StaysUnless old new ((status ≡ LinkFault) ⊎ (status ≡ WriteFault) ⊎ (status ≡ NoMemory))
@@ -75,12 +75,12 @@ module _ (words : List (List ℕ)) (honest : Type 0) (old new : ℕ) (answer : A
     ]
 
     pub complete-so : (source source' : SourceState) → Answered words source source' answer → (text : List ℕ) → source.left ≡ Some text → (accepts : Accepts words text)
-        → ¬ Rose source.faults source'.faults → ¬ Rose faults faults' → ¬ Rose old new → (AskForNodes words → honest) → GoesWell status accepts.task
+        → ¬ Rose source.faults source'.faults → ¬ Rose faults faults' → ¬ Rose old new → (AskForNodes words → ¬ untrusted) → GoesWell status accepts.task
     complete-so source source' answered text told accepts steady quiet still so =
         shows.status-so (λ (s : Status). GoesWell s accepts.task) answer sink sink' faults faults' status shown quiet tt
         (well-answered words text source source' answer answered told accepts steady (unfailed still) (alike so))
 
-    pub drill-so : (source source' : SourceState) → Answered words source source' answer → (asks : AsksDrill words) → ¬ Rose faults faults' → ¬ Rose old new → (AskForNodes words → honest)
+    pub drill-so : (source source' : SourceState) → Answered words source source' answer → (asks : AsksDrill words) → ¬ Rose faults faults' → ¬ Rose old new → (AskForNodes words → ¬ untrusted)
         → GoesWell status (File Own asks.drill.task)
     drill-so source source' answered asks quiet still so =
         shows.status-so (λ (s : Status). GoesWell s (File Own asks.drill.task)) answer sink sink' faults faults' status shown quiet tt

@@ -41,12 +41,12 @@ use Rattle.answer_io.specs.Inputs.{input_read}
 use Rattle.answer_io.specs.Fronts.{front_read, lines_in}
 
 -- a call on these words found an answer and showed it, or its sink failed after a prefix of it;
--- `honest` states that its dialer is honest, and the dialer's count of faults was `old` and is
--- `new`
-pub record Solves (words : List (List ℕ)) (honest : Type 0) (old new : ℕ) (source source' : SourceState) (sink sink' : SinkState) (status : Status) : Type 0 where
+-- `untrusted` states that its dialer gave wires and is not honest, and the dialer's count of faults
+-- was `old` and is `new`
+pub record Solves (words : List (List ℕ)) (untrusted : Type 0) (old new : ℕ) (source source' : SourceState) (sink sink' : SinkState) (status : Status) : Type 0 where
   pub answer : Answer
   pub answered : Answered words source source' answer
-  pub links : TellsAnswer (AskForNodes words) honest old new answer
+  pub links : TellsAnswer (AskForNodes words) untrusted old new answer
   pub shown : IsWholeShown answer sink sink' status ⊎ IsCutShort answer sink sink' status
 
 -- a task is within its limits: plain has at most assignment_limit assignments to try; for DPOP

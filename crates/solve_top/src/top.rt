@@ -6,6 +6,7 @@ ghost use Rattle.dcop_edge.specs.Faults.{Rose};
 ghost use Rattle.answer_io.specs.Input.{Took, read_limit, source_state};
 ghost use Rattle.answer_io.specs.Output.{sink_state};
 ghost use Rattle.answer_io.specs.Showing.{StaysUnless};
+ghost use Rattle.solve_agents.specs.Wiring.{HasUntrustedWire};
 ghost use Rattle.solve_answers.specs.Nodes.{AskForNodes};
 ghost use Rattle.solve_top.specs.Solving.{Solves, Accepts, AsksDrill, GoesWell};
 
@@ -57,8 +58,8 @@ use wire_pump::Dialer;
 /// over wires that the dialer gives. The answer then needs no trust in these wires.
 ///
 /// [`Status::ReadFault`], [`Status::WriteFault`] and [`Status::LinkFault`] come only if the source,
-/// the sink or the dialer failed in this call. [`Status::LinkDiffers`] comes only over a dialer
-/// that is not honest. The last two come only with more than one node.
+/// the sink or the dialer failed in this call. [`Status::LinkDiffers`] comes only if the dialer is
+/// not honest and gave wires in this call. The last two come only with more than one node.
 ///
 /// With `WriteFault` a prefix of the answer is written. If that answer is that the links failed or
 /// differ, the same conditions hold. With [`Status::NoMemory`], when memory runs out, nothing is
@@ -85,9 +86,11 @@ pub fn solve<
     ensures link_fault { result ≡ Status.LinkFault →
         AskForNodes (map string_bytes words.now) × Rose (D.faults dialer.old) (D.faults dialer.new) }
     ensures link_differs { result ≡ Status.LinkDiffers →
-        AskForNodes (map string_bytes words.now) × (¬ D.is_honest dialer.old) }
+        AskForNodes (map string_bytes words.now)
+        × HasUntrustedWire D.W.told (D.is_honest dialer.old) }
     ensures answered { result ≢ Status.NoMemory → Solves (map string_bytes words.now)
-        (D.is_honest dialer.old) (D.faults dialer.old) (D.faults dialer.new)
+        (HasUntrustedWire D.W.told (D.is_honest dialer.old))
+        (D.faults dialer.old) (D.faults dialer.new)
         (source_state (S.left source.old) (S.faults source.old) (S.gave source.old))
         (source_state (S.left source.new) (S.faults source.new) (S.gave source.new))
         (sink_state (K.held sink.old) (K.finished sink.old))

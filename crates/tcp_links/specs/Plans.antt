@@ -11,6 +11,7 @@ use Rattle.fifo_links.specs.declared.ends.LinkTail.{LinkTail}
 use Rattle.fifo_links.specs.declared.ends.LinkHead.{LinkHead}
 use Rattle.fifo_links.specs.Link.{AreEnds, sent_on, taken_from}
 use Rattle.wire_pump.specs.Wire.{Told}
+use Rattle.wire_pump.specs.Dialer.{IsNew}
 use Rattle.node_exchange.specs.Honest.{AreHonest}
 use Rattle.tcp_links.specs.declared.plan.InnerEnds.{InnerEnds}
 use Rattle.tcp_links.specs.declared.plan.NodePlan.{NodePlan}
@@ -81,6 +82,10 @@ module _ {W : Type 0} where
     pub wires : after.wires.items ≡ before.wires.items
     pub kept : after.kept.items ≡ before.kept.items
     pub ends : after.ends.items ≡ before.ends.items
+
+-- both wires of each pair are ends of new streams
+abbrev pub AreNewWires : {W : Type 0} → (W → Told) → List (W × W) → Type 0
+AreNewWires told pairs = All (λ pair. IsNew (told pair.0) × IsNew (told pair.1)) pairs
 
 module _ {W : Type 0} (told : W → Told) (is_joined : W → W → Type 0) where
   -- the two wires of each pair are joined, and each has received all that the other has sent

@@ -8,7 +8,7 @@ ghost use Rattle.link_records.specs.Differences.{IsLowerLink};
 ghost use Rattle.link_records.specs.Left.{fresh_link};
 ghost use Rattle.fifo_links.specs.Link.{AreEnds, sent_on, taken_from};
 ghost use Rattle.wire_pump.specs.Dialer.{HasDialCause};
-ghost use Rattle.tcp_links.specs.Plans.{pair_count, AreOrdered, IsPlan, IsHonest, HasNoLink, IsNewPlan, IsNewLink, IsSamePlan, BelongsAt};
+ghost use Rattle.tcp_links.specs.Plans.{pair_count, AreOrdered, AreNewWires, IsPlan, IsHonest, HasNoLink, IsNewPlan, IsNewLink, IsSamePlan, BelongsAt};
 
 use agent_cells::Sealed;
 use dcop_base::{NoMemory, VarId};
@@ -71,6 +71,7 @@ impl<W: Wire> NodePlan<W> {
         requires agents { (0 < agents) × (agents ≤ variable_limit) }
         requires nodes { (0 < nodes) × (nodes ≤ node_limit) }
         ensures new { IfOk result (IsNewPlan agents nodes) }
+        ensures wires { IfOk result (λ plan. AreNewWires W.told plan.wires.items) }
         ensures cause { HasDialCause (D.faults dialer.old) (D.faults dialer.new) result }
         ensures dialer { D.is_honest dialer.old → D.is_honest dialer.new }
         ensures honest { D.is_honest dialer.old → IfOk result (IsHonest W.told W.is_joined) }

@@ -3,10 +3,10 @@ use Rattle.solve_agents.proofs.WiringLaws.{fails_on, wide_is}
 use Rattle.solve_agents.proofs.choosing.choose.Goals as goal
 
 pub returns-in_err-found-clause-links : goal.returns-in_err-found-clause-links
-returns-in_err-found-clause-links g c = fails_on _ _ _ _ _ _ _ _ _ _ c.from_residual.result _ c.from_residual.ensures.1 refl refl (λ h. h) (λ start most is. inl is) c.in_err-found.ensures.links
+returns-in_err-found-clause-links g c = fails_on _ _ _ _ _ _ _ _ _ _ c.from_residual.result _ c.from_residual.ensures.1 refl refl (λ many h. h) (λ start most is. inl is) c.in_err-found.ensures.links
 
 pub returns-in_err-choose_on-in-None-clause-links : goal.returns-in_err-choose_on-in-None-clause-links
 returns-in_err-choose_on-in-None-clause-links g c =
     let fits = wide_is c.args.problem.now c.in_ok-found.found.tree.paths None c.in_ok-found.ensures.found.paths c.in-None.ensures.wide in
-    fails_on _ _ _ _ _ _ _ _ _ _ c.from_residual-in_err-choose_on-in-None.result _ c.from_residual-in_err-choose_on-in-None.ensures.1 c.in_ok-found.ensures.links c.in_ok-found.ensures.nodes c.in_ok-found.ensures.honest
+    fails_on _ _ _ _ _ _ _ _ _ _ c.from_residual-in_err-choose_on-in-None.result _ c.from_residual-in_err-choose_on-in-None.ensures.1 c.in_ok-found.ensures.links c.in_ok-found.ensures.nodes (λ many no h. no (c.in_ok-found.ensures.honest h))
     (λ start most is. inr (fits, is)) c.in_err-choose_on-in-None.ensures.links

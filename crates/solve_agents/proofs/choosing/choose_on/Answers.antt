@@ -30,4 +30,4 @@ returns-clause-asked g c =
     c.in_ok-chosen_by.ensures.asked ∙ same
 
 pub returns-in_err-ran-clause-links : goal.returns-in_err-ran-clause-links
-returns-in_err-ran-clause-links g c = fails_on _ _ _ _ _ _ _ _ _ _ c.from_residual-in_err-ran.result _ c.from_residual-in_err-ran.ensures.1 refl refl (λ h. h) (λ start most is. (c.args.found.tree, is.0, c.requires.found.paths, is.1 ∙ c.choice_deliveries-budget.ensures.all)) c.in_err-ran.ensures.links
+returns-in_err-ran-clause-links g c = fails_on _ _ _ _ _ _ _ _ _ _ c.from_residual-in_err-ran.result _ c.from_residual-in_err-ran.ensures.1 refl refl (λ many h. h) (λ start most is. (c.args.found.tree, is.0, c.requires.found.paths, is.1 ∙ c.choice_deliveries-budget.ensures.all)) c.in_err-ran.ensures.links

@@ -8,4 +8,4 @@ pub tree_found-requires : goal.tree_found-requires
 tree_found-requires g c = subst (λ (budget : ℕ). HaveRun budget (token_agents c.args.problem.now) c.in_ok-ran.ran.outcome) c.search_deliveries-budget.ensures.all c.in_ok-ran.ensures.logged.run
 
 pub returns-in_err-ran-clause-links : goal.returns-in_err-ran-clause-links
-returns-in_err-ran-clause-links g c = fails_on _ _ _ _ _ _ _ _ _ _ c.from_residual.result _ c.from_residual.ensures.1 refl refl (λ h. h) (λ start most is. (is.0, is.1 ∙ c.search_deliveries-budget.ensures.all)) c.in_err-ran.ensures.links
+returns-in_err-ran-clause-links g c = fails_on _ _ _ _ _ _ _ _ _ _ c.from_residual.result _ c.from_residual.ensures.1 refl refl (λ many h. h) (λ start most is. (is.0, is.1 ∙ c.search_deliveries-budget.ensures.all)) c.in_err-ran.ensures.links

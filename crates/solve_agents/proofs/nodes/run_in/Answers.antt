@@ -39,7 +39,7 @@ returns-clause-honest g c = λ h. (c.in_ok-end.ensures.honest (frame_honest _ _ 
 
 pub returns-in_err-end-clause-links : goal.returns-in_err-end-clause-links
 returns-in_err-end-clause-links g c =
-    fails_on _ _ _ _ _ _ _ _ _ _ c.from_residual-in_err-end.result _ c.from_residual-in_err-end.ensures.1 refl refl (λ h. h) (λ start most is. is)
+    fails_on _ _ _ _ _ _ _ _ _ _ c.from_residual-in_err-end.result _ c.from_residual-in_err-end.ensures.1 refl refl (λ many h. h) (λ start most is. is)
     (rw c.in_err-end.was at (ran_fails _ c.args.problem.now c.args.start.now c.requires.start _ c.args.budget c.args.plan.now c.seats_over.new.plan c.seats_over.ensures.frame.nodes (plan_agents c.args.problem.now c.args.start.now c.args.plan.now c.seats_over.new.plan c.in_ok-seats.seats.items c.requires.plan c.seats_over.ensures.frame)
     (links_between c.args.problem.now c.args.start.now c.args.plan.now c.seats_over.new.plan c.in_ok-seats.seats.items c.requires.plan c.seats_over.ensures.frame) (links_fresh c.args.problem.now c.args.start.now c.args.plan.now c.seats_over.new.plan c.in_ok-seats.seats.items c.requires.plan c.seats_over.ensures.frame c.in_ok-seats.ensures.seats)
     c.seats_over.ensures.frame.plan.ordered c.in_ok-seats.ensures.seats.linked.keeps

@@ -14,4 +14,4 @@ reached_by-requires g c =
     subst (λ (paths : List (List ℕ)). HaveLogged c.args.asked.budget (adopt_agents c.args.problem.now paths c.args.asked.error) c.args.asked.certified c.in_ok-ran.ran) found.paths c.in_ok-ran.ensures.logged
 
 pub returns-in_err-ran-clause-links : goal.returns-in_err-ran-clause-links
-returns-in_err-ran-clause-links g c = fails_on _ _ _ _ _ _ _ _ _ _ c.from_residual.result _ c.from_residual.ensures.1 refl refl (λ h. h) (λ start most is. (c.args.found.tree, is.0, c.requires.found.paths, is.1)) c.in_err-ran.ensures.links
+returns-in_err-ran-clause-links g c = fails_on _ _ _ _ _ _ _ _ _ _ c.from_residual.result _ c.from_residual.ensures.1 refl refl (λ many h. h) (λ start most is. (c.args.found.tree, is.0, c.requires.found.paths, is.1)) c.in_err-ran.ensures.links

@@ -32,8 +32,8 @@ returns-clause-dialer_failed g c = dialer-stays _ _ _ _ c.in-Ok.answer c.in-Ok.e
 
 pub returns-clause-complete : goal.returns-clause-complete
 returns-clause-complete g c = λ text told accepts steady quiet still so.
-    complete-so _ _ _ _ c.in-Ok.answer c.in-Ok.ensures.links _ _ _ _ _ c.show.ensures.shows _ _ c.in-Ok.ensures.answered text told accepts steady quiet still so
+    complete-so _ _ _ _ c.in-Ok.answer c.in-Ok.ensures.links _ _ _ _ _ c.show.ensures.shows _ _ c.in-Ok.ensures.answered text told accepts steady quiet still (λ asks no. no.0 (so asks))
 
 pub returns-clause-drilled : goal.returns-clause-drilled
 returns-clause-drilled g c = λ asks quiet still so.
-    drill-so _ _ _ _ c.in-Ok.answer c.in-Ok.ensures.links _ _ _ _ _ c.show.ensures.shows _ _ c.in-Ok.ensures.answered asks quiet still so
+    drill-so _ _ _ _ c.in-Ok.answer c.in-Ok.ensures.links _ _ _ _ _ c.show.ensures.shows _ _ c.in-Ok.ensures.answered asks quiet still (λ many no. no.0 (so many))

@@ -3,6 +3,7 @@ use Rattle.std.specs.List.{All}
 use Rattle.std.proofs.lemmas.List.{length-append}
 use Rattle.std.proofs.lemmas.List.Elements.{All-push}
 use Rattle.wire_pump.specs.Pump.{HaveAll}
+use Rattle.wire_pump.specs.Dialer.{IsNew}
 use Rattle.tcp_links.proofs.PlanLaws.{nothing_all}
 use Rattle.tcp_links.proofs.plan.NodePlan.new.Goals as goal
 
@@ -15,6 +16,8 @@ loop-preserved g c =
     record {
       faults = c.in_ok-pair.ensures.cause ∙ i.faults;
       count = omega (arith, was, one);
+      new = subst (λ ps. All (λ pair. IsNew (g.W.Wire.told pair.0) × IsNew (g.W.Wire.told pair.1)) ps) (sym items)
+          (All-push (λ pair. IsNew (g.W.Wire.told pair.0) × IsNew (g.W.Wire.told pair.1)) c.loop.wires.items c.in_ok-pair.pair i.new c.in_ok-pair.ensures.new);
       dialer = λ h. c.pair.ensures.honest.0 (i.dialer h);
       joined = λ h. subst (λ ps. All (λ pair. g.W.Wire.is_joined pair.0 pair.1) ps) (sym items)
           (All-push (λ pair. g.W.Wire.is_joined pair.0 pair.1) c.loop.wires.items c.in_ok-pair.pair (i.joined h) (c.in_ok-pair.ensures.joined (i.dialer h)));
