@@ -5,6 +5,7 @@ ghost use Rattle.worker_laws.specs.Wires.{HaveHeld};
 ghost use Rattle.agent_cells.specs.State.{IsCell};
 ghost use Rattle.agent_workers.specs.Joined.{EachIs, EachBecomes, AreCellsJoined};
 ghost use Rattle.agent_workers.specs.Settled.{StaysQuiet};
+ghost use Rattle.node_exchange.specs.Honest.{HaveReceivedAll};
 ghost use Rattle.node_exchange.specs.Turned.{AreTurned};
 ghost use Rattle.tcp_links.specs.Kept.{AreNoted};
 ghost use Rattle.tcp_links.specs.Left.{KeepsPlan, pairs_lost_by};
@@ -60,6 +61,8 @@ where
         plan.old cells.old plan.new.kept.items cells.new) }
     ensures honest { IsHonest D.W.told D.W.is_joined plan.old
         → OnOk result (IsHonest D.W.told D.W.is_joined plan.new × (HaveHeld plan.old.kept.items → HaveHeld plan.new.kept.items)) × IfErr result IsOtherFault }
+    ensures carried { HaveReceivedAll D.W.told plan.new.wires.items
+        → OnOk result (HaveHeld plan.old.kept.items → HaveHeld plan.new.kept.items) × IfErr result IsOtherFault }
 {
     let nodes = plan.nodes;
     let still = still_cells(cells, plan.seen.as_slice());

@@ -7,6 +7,7 @@ ghost use Rattle.worker_laws.specs.OneNode.{home};
 ghost use Rattle.worker_laws.specs.Wires.{HaveHeld};
 ghost use Rattle.agent_cells.specs.State.{fault_in};
 ghost use Rattle.agent_workers.specs.Joined.{states_of, EachIs, EachBecomes, HasBegun, IsSameCell, AreCellsJoined};
+ghost use Rattle.node_exchange.specs.Honest.{HaveReceivedAll};
 ghost use Rattle.node_exchange.specs.Turned.{AreTurned};
 ghost use Rattle.tcp_links.specs.Kept.{AreNoted};
 ghost use Rattle.tcp_links.specs.Left.{KeepsPlan, pairs_lost_by};
@@ -80,6 +81,8 @@ where
         workers budget plan.old.kept.items (states_of (λ b. meaning (b.vtable, b.value)) cells.old) plan.new.kept.items cells.new) }
     ensures honest { IsHonest D.W.told D.W.is_joined plan.old → HaveHeld plan.old.kept.items
         → OnOk result (IsHonest D.W.told D.W.is_joined plan.new × HaveHeld plan.new.kept.items) × IfErr result IsOtherFault }
+    ensures carried { HaveReceivedAll D.W.told plan.new.wires.items → HaveHeld plan.old.kept.items
+        → OnOk result (HaveHeld plan.new.kept.items) × IfErr result IsOtherFault }
 {
     let mut deliveries = 0;
     if all_ended(cells) {
@@ -142,6 +145,8 @@ where
         plan.old cells.old plan.new.kept.items cells.new) }
     ensures honest { IsHonest D.W.told D.W.is_joined plan.old
         → OnOk result (IsHonest D.W.told D.W.is_joined plan.new × (HaveHeld plan.old.kept.items → HaveHeld plan.new.kept.items)) × IfErr result IsOtherFault }
+    ensures carried { HaveReceivedAll D.W.told plan.new.wires.items
+        → OnOk result (HaveHeld plan.old.kept.items → HaveHeld plan.new.kept.items) × IfErr result IsOtherFault }
 {
     exchange(rt, alloc, dialer, cells, plan, round)?;
     match play_round(rt, cells, plan.nodes, workers, gate) {

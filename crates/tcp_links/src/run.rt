@@ -7,6 +7,7 @@ ghost use Rattle.worker_laws.specs.Wires.{HaveHeld};
 ghost use Rattle.agent_cells.specs.State.{begun_in, IsCell};
 ghost use Rattle.agent_workers.specs.Joined.{states_of, EachIs, EachBecomes, IsSameCell, AreCellsJoined};
 ghost use Rattle.agent_workers.specs.Run.{views_of, AreDulyPlayed, RestsAtStill};
+ghost use Rattle.node_exchange.specs.Honest.{HaveReceivedAll};
 ghost use Rattle.node_exchange.specs.Turned.{AreTurned};
 ghost use Rattle.tcp_links.specs.Kept.{AreNoted};
 ghost use Rattle.tcp_links.specs.Left.{IsTakenOut, KeepsPlan, pairs_lost_by};
@@ -50,7 +51,8 @@ use wire_pump::{Dialer, Wire};
 ///
 /// - [`NodeFault::Failed`] if the dialer or a wire failed: the dialer's count of faults rises.
 /// - [`NodeFault::Differs`] only if the two values in it differ. It never comes over the plan of an
-///   honest dialer.
+///   honest dialer. Nor does it come if, after the run, each wire tells that it has received all
+///   that the other one has sent.
 /// - [`NodeFault::NoMemory`] if memory runs out.
 ///
 /// After a fault the clause `left` says how far the run had come. The cells and the links of the
@@ -101,6 +103,7 @@ where
         plan.old.wires.items plan.new.wires.items }
     ensures dialer { D.is_honest dialer.old → D.is_honest dialer.new }
     ensures honest { IsHonest D.W.told D.W.is_joined plan.old → OnOk result (IsHonest D.W.told D.W.is_joined plan.new) × IfErr result IsOtherFault }
+    ensures carried { HaveReceivedAll D.W.told plan.new.wires.items → IfErr result IsOtherFault }
 {
     prepare(alloc, plan)?;
     run_over(
@@ -172,6 +175,7 @@ where
         plan.old.wires.items plan.new.wires.items }
     ensures dialer { D.is_honest dialer.old → D.is_honest dialer.new }
     ensures honest { IsHonest D.W.told D.W.is_joined plan.old → OnOk result (IsHonest D.W.told D.W.is_joined plan.new) × IfErr result IsOtherFault }
+    ensures carried { HaveReceivedAll D.W.told plan.new.wires.items → IfErr result IsOtherFault }
 {
     begin_all(cells)?;
     let play = play_over(rt, alloc, cells, plan, dialer, workers, budget, gate)?;

@@ -63,6 +63,16 @@ returns-in-Err-clause-honest g c =
     let none = subst NothingCame (sym here) (nothing_came (λ b. (goal.Machine-dyn g (b.vtable, b.value)).meaning b.value) c.args.plan.now.nodes c.args.plan.now.agents c.args.plan.now.kept.items c.args.plan.now.ends.items c.drain_all.new.ends c.args.cells.now c.drain_all.new.cells c.drain_all.new.passings c.requires.woven c.drain_all.ensures.quiet drained) in
     (tt, subst IsOtherFault (sym c.node_fault.ensures) (no_difference c.args.round c.in-Err.fault (c.in-Err.ensures.honest honest none).1))
 
+pub returns-in-Err-clause-carried : goal.returns-in-Err-clause-carried
+returns-in-Err-clause-carried g c =
+    λ all.
+    let idle = idle_slices (home c.args.plan.now.nodes c.args.plan.now.agents) c.args.plan.now.kept.items c.as_slice-2.result.now c.args.plan.now.passings.items c.as_mut_slice-2.result.now c.as_slice-2.ensures.value c.as_mut_slice-2.ensures.value c.requires.ready.idle in
+    let drained = drained_slices (λ b. (goal.Machine-dyn g (b.vtable, b.value)).meaning b.value) (home c.args.plan.now.nodes c.args.plan.now.agents) c.args.cells.now c.args.plan.now.kept.items c.as_slice-2.result.now c.args.plan.now.ends.items c.as_mut_slice.result.now c.drain_all.new.ends c.drain_all.new.passings c.as_slice-2.ensures.value c.as_mut_slice.ensures.value (c.in_ok-drain_all.ensures.drained (home c.args.plan.now.nodes c.args.plan.now.agents) idle) in
+    let long = drained.counted ∙ sym c.requires.ready.idle.size ∙ ap length (sym c.as_mut_slice-2.ensures.value) in
+    let here = c.as_mut_slice-3.ensures.value ∙ written _ c.args.plan.now.passings.items c.drain_all.new.passings c.as_mut_slice-2.result.now c.args.plan.now.passings.ok.0 long c.as_mut_slice-2.ensures.value in
+    let none = subst NothingCame (sym here) (nothing_came (λ b. (goal.Machine-dyn g (b.vtable, b.value)).meaning b.value) c.args.plan.now.nodes c.args.plan.now.agents c.args.plan.now.kept.items c.args.plan.now.ends.items c.drain_all.new.ends c.args.cells.now c.drain_all.new.cells c.drain_all.new.passings c.requires.woven c.drain_all.ensures.quiet drained) in
+    (tt, subst IsOtherFault (sym c.node_fault.ensures) (no_difference c.args.round c.in-Err.fault (c.in-Err.ensures.carried all none).1))
+
 pub feed_all-requires-clause-sizes : goal.feed_all-requires-clause-sizes
 feed_all-requires-clause-sizes g c =
     let idle = idle_slices (home c.args.plan.now.nodes c.args.plan.now.agents) c.args.plan.now.kept.items c.as_slice-2.result.now c.args.plan.now.passings.items c.as_mut_slice-2.result.now c.as_slice-2.ensures.value c.as_mut_slice-2.ensures.value c.requires.ready.idle in
@@ -156,6 +166,24 @@ returns-clause-honest g c =
     let none = subst NothingCame (sym here) (nothing_came (λ b. (goal.Machine-dyn g (b.vtable, b.value)).meaning b.value) c.args.plan.now.nodes c.args.plan.now.agents c.args.plan.now.kept.items c.args.plan.now.ends.items c.drain_all.new.ends c.args.cells.now c.drain_all.new.cells c.drain_all.new.passings c.requires.woven c.drain_all.ensures.quiet drained) in
     let came = c.in_default.ensures.honest honest none in
     ((came.0.0, λ held. subst HaveHeld (sym kept) (held_on (λ b. (goal.Machine-dyn g (b.vtable, b.value)).meaning b.value) c.args.plan.now.nodes c.args.plan.now.agents c.args.plan.now.kept.items c.args.plan.now.ends.items c.drain_all.new.ends c.args.cells.now c.drain_all.new.cells c.drain_all.new.passings c.requires.woven c.drain_all.ensures.quiet drained c.pass_all.new.passings c.feed_all.new.kept c.feed_all.new.ends c.feed_all.new.cells same c.feed_all.ensures.quiet fed came.0.1 held)), tt)
+
+pub returns-clause-carried : goal.returns-clause-carried
+returns-clause-carried g c =
+    λ all.
+    let idle = idle_slices (home c.args.plan.now.nodes c.args.plan.now.agents) c.args.plan.now.kept.items c.as_slice-2.result.now c.args.plan.now.passings.items c.as_mut_slice-2.result.now c.as_slice-2.ensures.value c.as_mut_slice-2.ensures.value c.requires.ready.idle in
+    let drained = drained_slices (λ b. (goal.Machine-dyn g (b.vtable, b.value)).meaning b.value) (home c.args.plan.now.nodes c.args.plan.now.agents) c.args.cells.now c.args.plan.now.kept.items c.as_slice-2.result.now c.args.plan.now.ends.items c.as_mut_slice.result.now c.drain_all.new.ends c.drain_all.new.passings c.as_slice-2.ensures.value c.as_mut_slice.ensures.value (c.in_ok-drain_all.ensures.drained (home c.args.plan.now.nodes c.args.plan.now.agents) idle) in
+    let long = drained.counted ∙ sym c.requires.ready.idle.size ∙ ap length (sym c.as_mut_slice-2.ensures.value) in
+    let here = c.as_mut_slice-3.ensures.value ∙ written _ c.args.plan.now.passings.items c.drain_all.new.passings c.as_mut_slice-2.result.now c.args.plan.now.passings.ok.0 long c.as_mut_slice-2.ensures.value in
+    let one = long_written _ c.args.plan.now.passings.items c.drain_all.new.passings c.as_mut_slice-2.result.now c.args.plan.now.passings.ok.0 long c.as_mut_slice-2.ensures.value in
+    let longer = sym (each_long SamePassing c.as_mut_slice-3.result.now c.pass_all.new.passings c.pass_all.ensures.same) in
+    let passed = c.as_mut_slice-6.ensures.value ∙ written _ _ c.pass_all.new.passings c.as_mut_slice-3.result.now one longer c.as_mut_slice-3.ensures.value in
+    let ends = written _ c.args.plan.now.ends.items c.drain_all.new.ends c.as_mut_slice.result.now c.args.plan.now.ends.ok.0 (drained.size ∙ ap length (sym c.as_mut_slice.ensures.value)) c.as_mut_slice.ensures.value in
+    let same : EachAre SamePassing c.drain_all.new.passings c.pass_all.new.passings = subst (λ ps. EachAre SamePassing ps c.pass_all.new.passings) here c.pass_all.ensures.same in
+    let fed = fed_slices (λ b. (goal.Machine-dyn g (b.vtable, b.value)).meaning b.value) c.feed_all.new.cells c.args.plan.now.kept.items c.as_mut_slice-4.result.now c.feed_all.new.kept c.drain_all.new.ends c.as_mut_slice-5.result.now c.feed_all.new.ends c.pass_all.new.passings c.as_mut_slice-6.result.now c.as_mut_slice-4.ensures.value (c.as_mut_slice-5.ensures.value ∙ ends) passed c.in_ok-feed_all.ensures.fed in
+    let kept = written _ c.args.plan.now.kept.items c.feed_all.new.kept c.as_mut_slice-4.result.now c.args.plan.now.kept.ok.0 c.feed_all.ensures.sizes.0 c.as_mut_slice-4.ensures.value in
+    let none = subst NothingCame (sym here) (nothing_came (λ b. (goal.Machine-dyn g (b.vtable, b.value)).meaning b.value) c.args.plan.now.nodes c.args.plan.now.agents c.args.plan.now.kept.items c.args.plan.now.ends.items c.drain_all.new.ends c.args.cells.now c.drain_all.new.cells c.drain_all.new.passings c.requires.woven c.drain_all.ensures.quiet drained) in
+    let came = c.in_default.ensures.carried all none in
+    (λ held. subst HaveHeld (sym kept) (held_on (λ b. (goal.Machine-dyn g (b.vtable, b.value)).meaning b.value) c.args.plan.now.nodes c.args.plan.now.agents c.args.plan.now.kept.items c.args.plan.now.ends.items c.drain_all.new.ends c.args.cells.now c.drain_all.new.cells c.drain_all.new.passings c.requires.woven c.drain_all.ensures.quiet drained c.pass_all.new.passings c.feed_all.new.kept c.feed_all.new.ends c.feed_all.new.cells same c.feed_all.ensures.quiet fed came.0 held), tt)
 
 pub returns-in_err-drain_all-clause-keeps : goal.returns-in_err-drain_all-clause-keeps
 returns-in_err-drain_all-clause-keeps g c =

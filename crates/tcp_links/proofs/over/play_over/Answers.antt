@@ -10,6 +10,7 @@ use Rattle.tcp_links.specs.Shared.{ArePlayedSharedOver}
 use Rattle.tcp_links.proofs.SharedLaws.{if_ended, if_broken, shared_at, shared_start, shared_all, shared_more, shared_last}
 use Rattle.tcp_links.proofs.LeftLaws.{keeps_none, keeps_then, same_then}
 use Rattle.node_exchange.proofs.TurnLaws.{turned_none, turned_then}
+use Rattle.node_exchange.proofs.WholeLaws.{turned_back}
 use Rattle.tcp_links.proofs.LostLaws.{turned_on}
 use Rattle.tcp_links.proofs.ExchangeLaws.{woven_noted}
 use Rattle.tcp_links.proofs.over.play_over.Goals as goal
@@ -36,6 +37,7 @@ loop-round-init g c = record {
   dialer = λ d. d;
   honest = λ h held. h;
   held = λ h held. held;
+  carried = λ all held. held;
 }
 
 pub returns-then-all_ended-clause-over : goal.returns-then-all_ended-clause-over
@@ -185,6 +187,7 @@ loop-round-preserved g c = let i = c.loop-round.invariant in let was = i.deliver
   dialer = λ d. c.round_over.ensures.dialer (c.loop-round.invariant.dialer d);
   honest = λ h held. (c.in_ok-taken.ensures.honest (i.honest h held)).0.0;
   held = λ h held. (c.in_ok-taken.ensures.honest (i.honest h held)).0.1 (i.held h held);
+  carried = λ all held. (c.in_ok-taken.ensures.carried all).0 (i.carried (turned_back g.D.W.Wire.told g.D.W.Wire.is_joined c.loop-round.plan.wires.items c.round_over.new.plan.wires.items c.in_ok-taken.ensures.wires all) held);
 }
 
 pub returns-clause-size : goal.returns-clause-size
@@ -317,3 +320,24 @@ returns-then-taken-eq0-clause-noted g c = c.round_over.ensures.noted
 
 pub returns-clause-noted : goal.returns-clause-noted
 returns-clause-noted g c = c.loop-round.invariant.noted
+
+pub returns-then-all_ended-clause-carried : goal.returns-then-all_ended-clause-carried
+returns-then-all_ended-clause-carried g c = λ all held. (held, tt)
+
+pub returns-in_err-taken-clause-carried : goal.returns-in_err-taken-clause-carried
+returns-in_err-taken-clause-carried g c = λ all held. (nothing_on c.from_residual.result _ _ c.from_residual.ensures.1, err_on c.from_residual.result _ IsOtherFault c.from_residual.ensures.1 (c.in_err-taken.ensures.carried all).1)
+
+pub returns-in_default-clause-carried : goal.returns-in_default-clause-carried
+returns-in_default-clause-carried g c = λ all held. ((c.in_ok-taken.ensures.carried all).0 (c.loop-round.invariant.carried (turned_back g.D.W.Wire.told g.D.W.Wire.is_joined c.loop-round.plan.wires.items c.round_over.new.plan.wires.items c.in_ok-taken.ensures.wires all) held), tt)
+
+pub returns-then-all_ended-2-clause-carried : goal.returns-then-all_ended-2-clause-carried
+returns-then-all_ended-2-clause-carried g c = λ all held. ((c.in_ok-taken.ensures.carried all).0 (c.loop-round.invariant.carried (turned_back g.D.W.Wire.told g.D.W.Wire.is_joined c.loop-round.plan.wires.items c.round_over.new.plan.wires.items c.in_ok-taken.ensures.wires all) held), tt)
+
+pub returns-then-deliveries-budget-clause-carried : goal.returns-then-deliveries-budget-clause-carried
+returns-then-deliveries-budget-clause-carried g c = λ all held. ((c.in_ok-taken.ensures.carried all).0 (c.loop-round.invariant.carried (turned_back g.D.W.Wire.told g.D.W.Wire.is_joined c.loop-round.plan.wires.items c.round_over.new.plan.wires.items c.in_ok-taken.ensures.wires all) held), tt)
+
+pub returns-then-taken-eq0-clause-carried : goal.returns-then-taken-eq0-clause-carried
+returns-then-taken-eq0-clause-carried g c = λ all held. ((c.in_ok-taken.ensures.carried all).0 (c.loop-round.invariant.carried (turned_back g.D.W.Wire.told g.D.W.Wire.is_joined c.loop-round.plan.wires.items c.round_over.new.plan.wires.items c.in_ok-taken.ensures.wires all) held), tt)
+
+pub returns-clause-carried : goal.returns-clause-carried
+returns-clause-carried g c = λ all held. (c.loop-round.invariant.carried all held, tt)

@@ -6,6 +6,7 @@ use Rattle.worker_laws.specs.Wires.{HaveHeld}
 use Rattle.agent_cells.specs.State.{fault_in}
 use Rattle.agent_workers.specs.Joined.{states_of, EachIs, EachBecomes, HasBegun, IsSameCell, AreCellsJoined}
 use Rattle.agent_workers.specs.Run.{AreBusy}
+use Rattle.node_exchange.specs.Honest.{HaveReceivedAll}
 use Rattle.node_exchange.specs.Turned.{AreTurned}
 use Rattle.tcp_links.specs.Kept.{AreNoted}
 use Rattle.tcp_links.specs.Left.{KeepsPlan}
@@ -36,4 +37,5 @@ invariant-loop-round g l = record {
   dialer : g.D.Dialer.is_honest l.initial.dialer → g.D.Dialer.is_honest l.dialer;
   honest : IsHonest g.D.W.Wire.told g.D.W.Wire.is_joined l.initial.plan → HaveHeld l.initial.plan.kept.items → IsHonest g.D.W.Wire.told g.D.W.Wire.is_joined l.plan;
   held : IsHonest g.D.W.Wire.told g.D.W.Wire.is_joined l.initial.plan → HaveHeld l.initial.plan.kept.items → HaveHeld l.plan.kept.items;
+  carried : HaveReceivedAll g.D.W.Wire.told l.plan.wires.items → HaveHeld l.initial.plan.kept.items → HaveHeld l.plan.kept.items;
 }

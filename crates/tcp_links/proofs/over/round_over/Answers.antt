@@ -147,3 +147,15 @@ returns-in-Err-StampEnd-clause-noted g c = c.exchange.ensures.noted
 
 pub returns-in-Err-NoMemory-clause-noted : goal.returns-in-Err-NoMemory-clause-noted
 returns-in-Err-NoMemory-clause-noted g c = c.exchange.ensures.noted
+
+pub returns-in_err-exchange-clause-carried : goal.returns-in_err-exchange-clause-carried
+returns-in_err-exchange-clause-carried g c = λ all. (nothing_on c.from_residual.result _ _ c.from_residual.ensures.1, err_on c.from_residual.result _ IsOtherFault c.from_residual.ensures.1 (c.in_err-exchange.ensures.carried all).1)
+
+pub returns-in-Ok-clause-carried : goal.returns-in-Ok-clause-carried
+returns-in-Ok-clause-carried g c = λ all. ((c.in_ok-exchange.ensures.carried all).0, tt)
+
+pub returns-in-Err-StampEnd-clause-carried : goal.returns-in-Err-StampEnd-clause-carried
+returns-in-Err-StampEnd-clause-carried g c = λ all. ((c.in_ok-exchange.ensures.carried all).0, tt)
+
+pub returns-in-Err-NoMemory-clause-carried : goal.returns-in-Err-NoMemory-clause-carried
+returns-in-Err-NoMemory-clause-carried g c = λ all. (tt, tt)

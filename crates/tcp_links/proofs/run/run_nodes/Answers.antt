@@ -96,3 +96,6 @@ returns-in_err-prepare-clause-left g c = err_on c.from_residual.result _ (IsLeft
 pub returns-clause-left : goal.returns-clause-left
 returns-clause-left g c = carry (λ old new. IfErr c.run_over.result (IsLeftBy (λ b. (goal.Machine-dyn g (b.vtable, b.value)).meaning b.value) c.args.workers c.args.budget c.args.plan.now old c.run_over.new.plan.kept.items new)) _ _ _ _ c.as_mut_slice.ensures.value (written _ c.args.cells.now.items c.run_over.new.cells c.as_mut_slice.result.now c.args.cells.now.ok.0 c.run_over.ensures.size c.as_mut_slice.ensures.value)
     (on_err _ _ c.run_over.result (λ e. left_as (λ b. (goal.Machine-dyn g (b.vtable, b.value)).meaning b.value) c.args.workers c.args.budget c.args.plan.now c.prepare.new.plan c.run_over.new.plan.kept.items c.as_mut_slice.result.now c.run_over.new.cells e c.prepare.ensures.same.agents c.prepare.ensures.same.nodes c.prepare.ensures.same.kept) c.run_over.ensures.left)
+
+pub returns-clause-carried : goal.returns-clause-carried
+returns-clause-carried g c = c.run_over.ensures.carried

@@ -16,6 +16,7 @@ use Rattle.tcp_links.proofs.SharedLaws.{run_shared}
 use Rattle.tcp_links.specs.Left.{IsTakenOut}
 use Rattle.tcp_links.proofs.LeftLaws.{keeps_none, keeps_same, keeps_then, taken_long, same_then}
 use Rattle.node_exchange.proofs.TurnLaws.{turned_none, turned_then}
+use Rattle.node_exchange.proofs.WholeLaws.{turned_back}
 use Rattle.node_exchange.specs.Turned.{AreTurned}
 use Rattle.tcp_links.proofs.LostLaws.{turned_on}
 use Rattle.tcp_links.specs.Kept.{AreNoted}
@@ -227,3 +228,14 @@ returns-in-Some-clause-left g c =
     let kept = written _ c.exchange.new.plan.kept.items c.compare.new.kept c.as_mut_slice.result.now c.exchange.new.plan.kept.ok.0 (taken_long c.in-Some.difference c.as_mut_slice.result.now c.compare.new.kept c.in-Some.ensures.left) c.as_mut_slice.ensures.value in
     left_come (λ b. (goal.Machine-dyn g (b.vtable, b.value)).meaning b.value) c.args.workers c.args.budget c.args.plan.now _ c.args.cells.now c.settle_all.new.cells (states_of (λ b. (goal.Machine-dyn g (b.vtable, b.value)).meaning b.value) c.begin_all.new.cells) (Differs c.in-Some.difference) (starts_over (λ b. (goal.Machine-dyn g (b.vtable, b.value)).meaning b.value) c.args.plan.now.nodes c.args.cells.now c.begin_all.new.cells c.requires.joined c.in_ok-begin_all.ensures.started)
     (differs_kept (λ b. (goal.Machine-dyn g (b.vtable, b.value)).meaning b.value) c.args.budget c.in_ok-play.play.rounds (views_of (λ b. (goal.Machine-dyn g (b.vtable, b.value)).meaning b.value) c.args.cells.now) (states_of (λ b. (goal.Machine-dyn g (b.vtable, b.value)).meaning b.value) c.begin_all.new.cells) c.args.plan.now c.play_over.new.plan c.play_over.new.cells c.in_ok-play.play.end (starts_over (λ b. (goal.Machine-dyn g (b.vtable, b.value)).meaning b.value) c.args.plan.now.nodes c.args.cells.now c.begin_all.new.cells c.requires.joined c.in_ok-begin_all.ensures.started) c.in_ok-play.ensures.over c.in_ok-play.ensures.played c.exchange.new.plan c.exchange.new.cells c.settle_all.new.cells c.in_ok-exchange.ensures.exchanged c.settle_all.ensures.settled c.args.workers c.in-Some.difference _ (differs_in _ _ _ c.as_mut_slice.ensures.value c.in-Some.ensures.found) (subst (λ ws. IsTakenOut c.in-Some.difference c.exchange.new.plan.kept.items ws) (sym kept) out))
+
+pub returns-in_err-play-clause-carried : goal.returns-in_err-play-clause-carried
+returns-in_err-play-clause-carried g c = λ all. err_on c.from_residual-in_err-play.result _ IsOtherFault c.from_residual-in_err-play.ensures.1 (c.in_err-play.ensures.carried all (held_start (λ b. (goal.Machine-dyn g (b.vtable, b.value)).meaning b.value) c.args.plan.now c.args.cells.now c.requires.plan c.requires.linked)).1
+
+pub returns-in_err-exchange-clause-carried : goal.returns-in_err-exchange-clause-carried
+returns-in_err-exchange-clause-carried g c = λ all. err_on c.from_residual-in_err-exchange.result _ IsOtherFault c.from_residual-in_err-exchange.ensures.1 (c.in_err-exchange.ensures.carried all).1
+
+pub returns-in-Some-clause-carried : goal.returns-in-Some-clause-carried
+returns-in-Some-clause-carried g c = λ all.
+    let held = (c.in_ok-play.ensures.carried (turned_back g.D.W.Wire.told g.D.W.Wire.is_joined c.play_over.new.plan.wires.items c.exchange.new.plan.wires.items c.in_ok-exchange.ensures.wires all) (held_start (λ b. (goal.Machine-dyn g (b.vtable, b.value)).meaning b.value) c.args.plan.now c.args.cells.now c.requires.plan c.requires.linked)).0 in
+    absurd (never_differ c.as_mut_slice.result.now _ (held_in _ _ (sym c.as_mut_slice.ensures.value) ((c.in_ok-exchange.ensures.carried all).0 held)) c.in-Some.ensures.found)
