@@ -21,7 +21,7 @@ ghost use Rattle.agent_links.specs.Kinds.{view_of};
 use crate::crew::Crew;
 use crate::logging::log_if;
 use agent_cells::Cell;
-use agent_links::{Agent, Seat, make_each, outcome_of, seats_of};
+use agent_links::{Seat, make_each, outcome_of, seats_of};
 use agent_workers::run;
 use dcop_base::{NoMemory, Problem, problem_is_whole};
 use dcop_edge::Gate;
@@ -116,32 +116,8 @@ fn run_cells<R: Threads + Sync, G: Gate>(
     let make = |seat: Seat| -> Result<Cell, NoMemory>
         ensures { IfOk result (IsNewCell (λ b. meaning (b.vtable, b.value)) (view_of seat.agent) seat.me seat.tails.items seat.heads.items) }
     {
-        let Seat {
-            agent,
-            me,
-            tails,
-            heads,
-        } = seat;
-        match agent {
-            Agent::Token(agent) => {
-                let Ok(machine) = Box::new(alloc, agent) else {
-                    return Err(NoMemory);
-                };
-                Cell::new(alloc, machine, me, tails, heads)
-            }
-            Agent::Dpop(agent) => {
-                let Ok(machine) = Box::new(alloc, agent) else {
-                    return Err(NoMemory);
-                };
-                Cell::new(alloc, machine, me, tails, heads)
-            }
-            Agent::Adopt(agent) => {
-                let Ok(machine) = Box::new(alloc, agent) else {
-                    return Err(NoMemory);
-                };
-                Cell::new(alloc, machine, me, tails, heads)
-            }
-        }
+        let machine = Box::new(alloc, seat.agent)?;
+        Cell::new(alloc, machine, seat.me, seat.tails, seat.heads)
     };
     let seats = seats_of(alloc, problem, start)?;
     let mut cells = make_each(alloc, seats, &make)?;

@@ -14,7 +14,7 @@ ghost use Rattle.solve_agents.specs.Wiring.{nodes_in, IsWiringFor, IsHonestWirin
 use crate::agents::{logged_of, run_logged};
 use crate::crew::Crew;
 use agent_cells::Cell;
-use agent_links::{Agent, Seat, make_each};
+use agent_links::{Seat, make_each};
 use dcop_base::{NoMemory, Problem, problem_is_whole};
 use dcop_edge::Gate;
 use delivery_core::Start;
@@ -143,32 +143,8 @@ where
     let make = |seat: Seat| -> Result<Cell, NoMemory>
         ensures { IfOk result (IsNewCell (λ b. meaning (b.vtable, b.value)) (view_of seat.agent) seat.me seat.tails.items seat.heads.items) }
     {
-        let Seat {
-            agent,
-            me,
-            tails,
-            heads,
-        } = seat;
-        match agent {
-            Agent::Token(agent) => {
-                let Ok(machine) = Box::new(alloc, agent) else {
-                    return Err(NoMemory);
-                };
-                Cell::new(alloc, machine, me, tails, heads)
-            }
-            Agent::Dpop(agent) => {
-                let Ok(machine) = Box::new(alloc, agent) else {
-                    return Err(NoMemory);
-                };
-                Cell::new(alloc, machine, me, tails, heads)
-            }
-            Agent::Adopt(agent) => {
-                let Ok(machine) = Box::new(alloc, agent) else {
-                    return Err(NoMemory);
-                };
-                Cell::new(alloc, machine, me, tails, heads)
-            }
-        }
+        let machine = Box::new(alloc, seat.agent)?;
+        Cell::new(alloc, machine, seat.me, seat.tails, seat.heads)
     };
     let seats = seats_over(alloc, problem, start, plan)?;
     let mut cells = make_each(alloc, seats, &make)?;

@@ -8,7 +8,7 @@ ghost use Rattle.agent_links.specs.Ready.{IsNewCell};
 ghost use Rattle.agent_links.specs.Kinds.{view_of};
 
 use agent_cells::{Cell, VisitFault};
-use agent_links::{Agent, Seat, make_each, seats_of};
+use agent_links::{Seat, make_each, seats_of};
 use agent_workers::{CellsList, begin_all, round};
 use dcop_base::{NoMemory, Problem, problem_is_whole};
 use dcop_edge::OpenGate;
@@ -26,19 +26,8 @@ pub(crate) fn one_round<R: Threads + AllocGlobal + Sync>(
     let make = |seat: Seat| -> Result<Cell, NoMemory>
         ensures { IfOk result (IsNewCell (λ b. meaning (b.vtable, b.value)) (view_of seat.agent) seat.me seat.tails.items seat.heads.items) }
     {
-        let Seat {
-            agent,
-            me,
-            tails,
-            heads,
-        } = seat;
-        let Agent::Token(agent) = agent else {
-            return Err(NoMemory);
-        };
-        let Ok(machine) = Box::new(alloc, agent) else {
-            return Err(NoMemory);
-        };
-        Cell::new(alloc, machine, me, tails, heads)
+        let machine = Box::new(alloc, seat.agent)?;
+        Cell::new(alloc, machine, seat.me, seat.tails, seat.heads)
     };
     let seats = seats_of(alloc, problem, &Start::Token)?;
     let mut cells = make_each(alloc, seats, &make)?;
