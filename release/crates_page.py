@@ -9,6 +9,7 @@ from __future__ import annotations
 import tomllib
 from typing import Any
 
+from . import words
 from .markdown import MADE, PAGES, Layers, cell, first_sentence
 from .programs import TOP, below
 
@@ -23,7 +24,11 @@ def page() -> str:
     above = {crate: {it for it in uses if crate in reached(it, uses)} for crate in uses}
     measured = tomllib.loads(TIMES.read_text())
     seconds, layers = measured["seconds"], Layers()
-    told = ["# Crates\n", MADE, opening(measured["run"], len(uses)).rstrip("\n")]
+    aims: dict[str, list[str]] = {}
+    for crate in uses:
+        aims.setdefault(layers.short(layers.names[crate]), []).append(aim_of(crate))
+    listed = words.table({layer: "\n".join(said) for layer, said in aims.items()})
+    told = ["# Crates\n", MADE, opening(measured["run"], len(uses)), *listed[:-1]]
     for crate in uses:
         if heading := layers.heading(crate):
             told += ["", *heading, HEAD]
@@ -41,10 +46,7 @@ def opening(run: dict[str, Any], count: int) -> str:
         "\"Proof\" is the processor time, in seconds, for proving a crate and building its library or program. \"Tests\" is that for its tests. "
         "\"All again\" is the processor time, in minutes, for a crate and all that use it: what a change of the crate can take. A dash means that "
         "there are no tests, or that the crate was not measured.\n\n"
-        "[Cells, rounds and wires](../ARCHITECTURE.md#cells-rounds-and-wires) explains cells, exchanges and dialers, "
-        "[Tree](../formats/answers.md#tree) joints and separators, [Trace](../guide/runs.md#trace) contexts, [Log](../formats/report.md#log-the-certificate-of-adopt) stamps, and "
-        "[decisions](../decisions/model.md) journals. A plan says which agents are in which node. The trusted edge is code whose outside calls are "
-        "trusted; what sockets carry is not.\n\n"
+        "The trusted edge is code whose outside calls are trusted; what sockets carry is not.\n\n"
         f"{run['says']}\n"
     )
 

@@ -11,6 +11,7 @@ from collections.abc import Callable
 from dataclasses import dataclass
 from pathlib import Path
 
+from . import words
 from .markdown import MADE, PAGES, Layers, cell
 from .programs import TOP
 from .sources import Call, Sources
@@ -109,9 +110,10 @@ def pages(sources: Sources) -> dict[Path, str]:
 
 
 def layer_page(kind: Kind, layer: str, layers: Layers, sections: dict[str, list[str]]) -> str:
-    """The page of a layer, which ends with where the crates lie that it refers to."""
+    """The page of a layer, which begins with the words that occur on it, and ends with where the crates lie that it refers to."""
     back = f"[All {kind.title.lower()}](../{kind.folder}.md) says how to read this page."
     told = [f"# {kind.title}: {layer}\n", MADE, f"A layer of crates: {layers.said[layer]}. {back}\n"]
+    told += words.table({layers.short(layer): "\n".join(it for section in sections.values() for it in section)})
     for crate, section in sections.items():
         told += [f"## {crate}\n", *section]
     cited = sorted(set(re.findall(r"`\]\[(\w+)\]", "\n".join(told))))

@@ -4,8 +4,8 @@
     front/python.sh -m release.reference --check    says whether they are fresh
 
 Definitions and public calls come from `release/layer_pages.py`, crates and their times from `release/crates_page.py`, wrong bodies from
-`release/wrong_page.py`, measurements from `release/benchmarks.py`, what pages quote from `release/quotes.py`. All pages of docs/reference are
-made; another one there is an error.
+`release/wrong_page.py`, measurements from `release/benchmarks.py`, what pages quote from `release/quotes.py`, the words that they explain from
+`release/words.py`. All pages of docs/reference are made; another one there is an error.
 """
 
 from __future__ import annotations

@@ -99,6 +99,16 @@ class Reference(unittest.TestCase):
             for name, crate in cited:
                 self.assertIn(f"`{name}`", defined[crate].partition("Cited by no clause")[0], f"{page.name}: {name}")
 
+    def test_each_word_is_listed_on_a_page_of_each_of_its_layers(self):
+        """And no page lists a word twice."""
+        listed = {page: re.findall(r"^\| ([^|]+) \|", page.read_text().partition("\n## ")[0], re.MULTILINE)[1:] for page in REFERENCE.glob("*/*.md")}
+        for told in listed.values():
+            self.assertEqual(len(set(told)), len(told))
+        for row in tomllib.loads((TOP / "docs" / "data" / "words.toml").read_text())["word"]:
+            for layer in row.get("layers", ["*"]):
+                with self.subTest(f"{row['word']}: {layer}"):
+                    self.assertIn(row["word"], {word for page, told in listed.items() if page.match(f"{layer}.md") for word in told})
+
 
 if __name__ == "__main__":
     unittest.main()
