@@ -59,7 +59,8 @@ use wire_pump::Dialer;
 ///
 /// [`Status::ReadFault`], [`Status::WriteFault`] and [`Status::LinkFault`] come only if the source,
 /// the sink or the dialer failed in this call. [`Status::LinkDiffers`] comes only if the dialer is
-/// not honest and gave wires in this call. The last two come only with more than one node.
+/// not honest and there is a new wire: code for any type of dialer gets one only from its dialer.
+/// The last two come only with more than one node.
 ///
 /// With `WriteFault` a prefix of the answer is written. If that answer is that the links failed or
 /// differ, the same conditions hold. With [`Status::NoMemory`], when memory runs out, nothing is
