@@ -81,7 +81,7 @@ DEFINITIONS = Kind(
 CALLS = Kind(
     "calls",
     "Public calls",
-    "The pages below have each public call with the first sentence of its comment, and the clauses that the check has proved of it, by name, each with the "
+    "The pages below have each public call with the first sentence of its comment, and the clauses that the gate has proved of it, by name, each with the "
     "definitions that it cites. A clause without a name is shown as `ensures`.",
     calls_of,
 )
