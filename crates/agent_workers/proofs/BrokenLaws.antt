@@ -32,28 +32,6 @@ use Rattle.agent_workers.specs.Joined.{states_of, AreCellsJoined}
 use Rattle.agent_workers.specs.Turns.{sprint_limit, SomeFailed}
 use Rattle.agent_workers.specs.Broken.{HasGoneOn, HasFailedVisit, StandsOrFails, HaveBrokenOff}
 
--- relations at each place of lists
-pub each_then : {X Y Z : Type 0} (R : X → Y → Type 0) (S : Y → Z → Type 0) (T : X → Z → Type 0) → ((x : X) (y : Y) (z : Z) → R x y → S y z → T x z)
-    → (xs : List X) (ys : List Y) (zs : List Z) → EachAre R xs ys → EachAre S ys zs → EachAre T xs zs
-each_then R S T on [] [] [] r s = tt
-each_then R S T on [] [] (z ∷ zs) r s = absurd s
-each_then R S T on [] (y ∷ ys) zs r s = absurd r
-each_then R S T on (x ∷ xs) [] zs r s = absurd r
-each_then R S T on (x ∷ xs) (y ∷ ys) [] r s = absurd s
-each_then R S T on (x ∷ xs) (y ∷ ys) (z ∷ zs) r s = (on x y z r.0 s.0, each_then R S T on xs ys zs r.1 s.1)
-
-pub each_on_to : {X Y : Type 0} (R S : X → Y → Type 0) → ((x : X) (y : Y) → R x y → S x y) → (xs : List X) (ys : List Y) → EachAre R xs ys → EachAre S xs ys
-each_on_to R S on [] [] r = tt
-each_on_to R S on [] (y ∷ ys) r = absurd r
-each_on_to R S on (x ∷ xs) [] r = absurd r
-each_on_to R S on (x ∷ xs) (y ∷ ys) r = (on x y r.0, each_on_to R S on xs ys r.1)
-
-pub each_join : {X Y : Type 0} (R : X → Y → Type 0) (xs us : List X) (ys vs : List Y) → EachAre R xs ys → EachAre R us vs → EachAre R (xs ++ us) (ys ++ vs)
-each_join R [] us [] vs r s = s
-each_join R [] us (y ∷ ys) vs r s = absurd r
-each_join R (x ∷ xs) us [] vs r s = absurd r
-each_join R (x ∷ xs) us (y ∷ ys) vs r s = (r.0, each_join R xs us ys vs r.1 s)
-
 pub gone_then : (a b c : CellState) → HasGoneOn a b → HasGoneOn b c → HasGoneOn a c
 gone_then a b c g h = record { deeds = g.deeds ++ h.deeds; later = later_then a b c g.deeds h.deeds g.later h.later }
 

@@ -1,5 +1,6 @@
 -- Cells that stay the same except for what they know.
-use Rattle.std.proofs.Common.{◌≡◌, ◌≢◌, ℕ, suc, ◌==◌, not, if◌then◌else◌, Bool, true, false, List, [], ◌∷◌, ◌++◌, length, None, refl, sym, ap, subst, ◌∙◌, inl, inr, arith}
+use Rattle.std.proofs.Common.{◌≡◌, ◌≢◌, ℕ, suc, ◌+◌, ◌==◌, not, if◌then◌else◌, Bool, true, false, Option, Result, Err, List, [], ◌∷◌, ◌++◌, length, Some, None, refl, sym, ap, subst, ◌∙◌, inl, inr, arith}
+use Rattle.std.specs.Prelude.{IfSome}
 use Rattle.std.proofs.lemmas.Bool.{cases_Bool, eqb-true}
 use Rattle.std.proofs.lemmas.List.Sums.{sum_by-cons}
 use Rattle.std.specs.declared.dyn_box.DynBox.{DynBox}
@@ -7,9 +8,10 @@ use Rattle.std.specs.declared.alloc.Global.{Global}
 use Rattle.protocol_steps.specs.View.{View, ended_of}
 use Rattle.fifo_links.specs.Link.{known_to}
 use Rattle.worker_laws.specs.Cells.{CellState, peers, lane, known_from}
-use Rattle.worker_laws.specs.Visits.{IsQuiet}
+use Rattle.worker_laws.specs.Visits.{IsQuiet, IsVisit}
 use Rattle.worker_laws.specs.CellRounds.{IsSettled}
 use Rattle.agent_cells.specs.declared.cell.Cell.{Cell}
+use Rattle.agent_cells.specs.declared.fault.VisitFault.{VisitFault}
 use Rattle.agent_cells.specs.Links.{Tail, Head, known_of, AreSameTails, AreSameHeads}
 use Rattle.std.specs.List.Sorted.{IsStrictlyIncreasing}
 use Rattle.dcop_base.specs.Table.{has}
@@ -122,12 +124,35 @@ module _ {X : Type 0} {F : X → Type 0} (M : DynBox X Global F → View) where
 
   -- a cell that has not failed, and knows of nothing that waits, has had a turn that took nothing
   pub idle_turn : (c : Cell X F) → fault_in c ≡ None → ((j : ℕ) → known_from j (state_of M c).known ≡ 0) → HasTurned M 0 c c
-  idle_turn c fine none = record { rests = λ _. (refl, refl); visit = λ _. (visited_idle (state_of M c) (state_of M c) none refl refl refl refl refl refl, fine) }
+  idle_turn c fine none = record { rests = λ _. (refl, refl); visit = λ _. (visited_idle (state_of M c) (state_of M c) none refl refl refl refl refl refl, fine); fine = λ _. fine }
+
+  pub ended_turn : (c : Cell X F) → ended_of (state_of M c).view ≡ true → HasTurned M 0 c c
+  ended_turn c ended = record {
+    rests = λ _. (refl, refl);
+    visit = λ live. let no : true ≡ false = sym ended ∙ live in absurd (cc);
+    fine = λ live. let no : true ≡ false = sym ended ∙ live in absurd (cc);
+  }
+
+  -- a cell that had failed returns its fault at every later visit
+  fine_before : (o : Option VisitFault) (r : Result ℕ VisitFault) (a b : Cell X F) → fault_in a ≡ o → fault_in b ≡ None → IfSome o (λ f. (r ≡ Err f) × (b ≡ a)) → o ≡ None
+  fine_before None r a b is fine again = refl
+  fine_before (Some f) r a b is fine again = sym is ∙ ap (λ (c : Cell X F). fault_in c) (sym again.1) ∙ fine
+
+  -- a cell that was visited has had its turn
+  pub live_turn : (n : ℕ) (r : Result ℕ VisitFault) (a b : Cell X F) → ended_of (state_of M a).view ≡ false → IsVisit (state_of M a) n (state_of M b) → fault_in b ≡ None → IfSome (fault_in a) (λ f. (r ≡ Err f) × (b ≡ a)) → HasTurned M n a b
+  live_turn n r a b live visit fine again = record {
+    rests = λ ended. let no : true ≡ false = sym ended ∙ live in absurd (cc);
+    visit = λ _. (visit, fine);
+    fine = λ _. fine_before (fault_in a) r a b refl fine again;
+  }
+
+  pub live_once : (n : ℕ) (a b : Cell X F) → HasTurned M n a b → visits_in b ≡ visits_in a + 1 → IsVisitedOnce M a b
+  live_once n a b turn once = record { count = n; turn = turn; once = λ _. once }
 
   -- a cell that has ended has had its turn
   pub ended_once : (c : Cell X F) → ended_of (state_of M c).view ≡ true → IsVisitedOnce M c c
   ended_once c ended = record {
     count = 0;
-    turn = record { rests = λ _. (refl, refl); visit = λ live. let no : true ≡ false = sym ended ∙ live in absurd (cc) };
+    turn = ended_turn c ended;
     once = λ live. let no : true ≡ false = sym ended ∙ live in absurd (cc);
   }

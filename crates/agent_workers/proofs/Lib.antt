@@ -8,7 +8,7 @@ mod SentLaws
 mod TurnLaws
 mod PartLaws
 mod BrokenLaws
-mod BreakLaws
+pub mod BreakLaws
 mod SharedLaws
 pub mod RoundLaws
 pub mod RunLaws

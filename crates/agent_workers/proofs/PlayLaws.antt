@@ -1,5 +1,5 @@
 -- Turns, sprints and parts.
-use Rattle.std.proofs.Common.{◌≡◌, ◌≢◌, ℕ, zero, suc, ◌+◌, ◌*◌, ◌<◌, ◌≤◌, ◌⊎◌, Bool, true, false, Result, Ok, Err, Some, List, [], ◌∷◌, ◌++◌, length, set, get_or, slice_get, refl, sym, ap, subst, ◌∙◌, inl, inr, arith, length-set, length-append}
+use Rattle.std.proofs.Common.{◌≡◌, ◌≢◌, ℕ, zero, suc, ◌+◌, ◌*◌, ◌<◌, ◌≤◌, ◌⊎◌, Bool, true, false, Result, Ok, Err, Some, None, List, [], ◌∷◌, ◌++◌, length, set, get_or, slice_get, refl, sym, ap, subst, ◌∙◌, inl, inr, arith, length-set, length-append}
 use Rattle.std.specs.Prelude.{IfOk, IfErr, IsErrAnd}
 use Rattle.std.specs.List.{sum_by}
 use Rattle.std.proofs.Math.Nat.{suc-mul, mul-le-mul_right}
@@ -21,7 +21,7 @@ use Rattle.agent_cells.specs.State.{state_of, begun_in, fault_in, IsCell, KeepsL
 use Rattle.agent_workers.specs.Joined.{states_of, EachIs, EachBecomes}
 use Rattle.agent_cells.specs.declared.fault.VisitFault.TheVariants.{NoMemory, StampEnd}
 use Rattle.agent_workers.specs.Parts.{both_of}
-use Rattle.agent_workers.specs.Turns.{visit_limit, IsReady, StaysReady, HasTurned, MayHaveTurned, HasSprinted, SomeFailed, AreTurning, AreSprinting, HavePlayed}
+use Rattle.agent_workers.specs.Turns.{visit_limit, IsReady, StaysReady, HasTurned, MayHaveTurned, StaysFine, HasSprinted, SomeFailed, AreTurning, AreSprinting, HavePlayed}
 use Rattle.agent_workers.proofs.ListLaws.{one_at}
 use Rattle.agent_workers.proofs.CellLaws.{keeps_none, keeps_then}
 use Rattle.agent_workers.proofs.JoinLaws.{stood}
@@ -215,11 +215,20 @@ module _ {X : Type 0} {F : X → Type 0} (M : DynBox X Global F → View) where
     most = omega arith;
   }
 
+  -- a cell that had not failed, and one that has not failed since
+  stays_on : (a b c : Cell X F) → StaysFine a b → fault_in b ≡ None → fault_in c ≡ None → StaysFine a c
+  stays_on a b c (inl same) fine now = inr (ap (λ (x : Cell X F). fault_in x) (sym same) ∙ fine, now)
+  stays_on a b c (inr was) fine now = inr (was.0, now)
+
+  pub still_fine : (a b : Cell X F) → StaysFine a b → fault_in a ≡ None → fault_in b ≡ None
+  still_fine a b (inl same) fine = ap (λ (x : Cell X F). fault_in x) same ∙ fine
+  still_fine a b (inr since) fine = since.1
+
   -- a first turn, and one more
   visit_first : (m : ℕ) (b c : Cell X F) → HasTurned M m b c → HasSprinted M 1 b c
   visit_first m b c t = elim (cases_Bool (ended_of (state_of M b).view)) [
-    | inl ended ↦ subst (λ (x : Cell X F). HasSprinted M 1 b x) (sym (t.rests ended).0) (record { sprint = sprints_are_visits.rests 1 (state_of M b) ended; fault = λ none. none })
-    | inr live ↦ let v = t.visit live in record { sprint = sprints_are_visits.first (state_of M b) (state_of M c) m live v.0; fault = λ _. v.1 }
+    | inl ended ↦ subst (λ (x : Cell X F). HasSprinted M 1 b x) (sym (t.rests ended).0) (record { sprint = sprints_are_visits.rests 1 (state_of M b) ended; fault = inl refl })
+    | inr live ↦ let v = t.visit live in record { sprint = sprints_are_visits.first (state_of M b) (state_of M c) m live v.0; fault = inr (t.fine live, v.1) }
   ]
 
   turn_first : (all : Bool) (m : ℕ) (b c : Cell X F) → all ≡ true → MayHaveTurned M all m b c → HasSprinted M 1 b c
@@ -231,7 +240,7 @@ module _ {X : Type 0} {F : X → Type 0} (M : DynBox X Global F → View) where
   visit_next : (k m : ℕ) (a b c : Cell X F) → HasSprinted M k a b → HasTurned M m b c → HasSprinted M (k + 1) a c
   visit_next k m a b c s t = elim (cases_Bool (ended_of (state_of M b).view)) [
     | inl ended ↦ subst (λ (x : Cell X F). HasSprinted M (k + 1) a x) (sym (t.rests ended).0) (record { sprint = sprints_are_visits.fewer k (k + 1) (state_of M a) (state_of M b) (omega arith) s.sprint; fault = s.fault })
-    | inr live ↦ let v = t.visit live in record { sprint = sprints_are_visits.next k m (state_of M a) (state_of M b) (state_of M c) s.sprint v.0; fault = λ _. v.1 }
+    | inr live ↦ let v = t.visit live in record { sprint = sprints_are_visits.next k m (state_of M a) (state_of M b) (state_of M c) s.sprint v.0; fault = stays_on a b c s.fault (t.fine live) v.1 }
   ]
 
   turn_next : (all : Bool) (k m : ℕ) (a b c : Cell X F) → HasSprinted M k a b → MayHaveTurned M all m b c → HasSprinted M (k + 1) a c
@@ -297,7 +306,7 @@ module _ {X : Type 0} {F : X → Type 0} (M : DynBox X Global F → View) where
         ];
       }
 
-  total_both : (a b : List (Cell X F)) → total (states_of M (a ++ b)) ≡ total (states_of M a) + total (states_of M b)
+  pub total_both : (a b : List (Cell X F)) → total (states_of M (a ++ b)) ≡ total (states_of M a) + total (states_of M b)
   total_both a b = ap total (map-append (state_of M) a b) ∙ sum_by-append (λ (s : CellState). taken_by s.journal) (states_of M a) (states_of M b)
 
   pub played_both : (m n : ℕ) (a b c d : List (Cell X F)) → HavePlayed M m a c → HavePlayed M n b d → HavePlayed M (m + n) (a ++ b) (c ++ d)

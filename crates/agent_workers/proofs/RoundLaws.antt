@@ -22,6 +22,7 @@ use Rattle.agent_workers.specs.Turns.{sprint_limit, IsReady, StaysReady, HasSpri
 use Rattle.agent_workers.proofs.ListLaws.{each_are}
 use Rattle.agent_workers.proofs.CellLaws.{keeps_then}
 use Rattle.agent_workers.proofs.JoinLaws.{stood, quiet_same, joined_still}
+use Rattle.agent_workers.proofs.PlayLaws.{still_fine}
 use Rattle.agent_workers.proofs.SettleLaws.{settling}
 
 module _ {X : Type 0} {F : X → Type 0} (M : DynBox X Global F → View) where
@@ -96,7 +97,7 @@ module _ {X : Type 0} {F : X → Type 0} (M : DynBox X Global F → View) where
           size = p.sprints.size ∙ size;
           each = λ i a c e f none.
               let b = stood M (HasSprinted M most_events) mid after p.sprints i c f in
-              b.2.fault ((s.quiet.each i a b.0 e b.1).fault ∙ none);
+              still_fine M b.0 c b.2.fault ((s.quiet.each i a b.0 e b.1).fault ∙ none);
         };
       }
 

@@ -1,5 +1,5 @@
 -- A round, and a run, that was broken off by a fault.
-use Rattle.std.specs.Prelude.{◌≡◌, ℕ, ◌+◌, ◌*◌, ◌<◌, ◌≤◌, ◌⊎◌, true, if◌then◌else◌, List, length, Some, None, is_some, slice_get}
+use Rattle.std.specs.Prelude.{◌≡◌, ◌≢◌, ℕ, ◌+◌, ◌*◌, ◌<◌, ◌≤◌, ◌⊎◌, true, if◌then◌else◌, List, length, Some, None, is_some, slice_get}
 use Rattle.std.specs.List.{sum_by}
 use Rattle.std.specs.declared.dyn_box.DynBox.{DynBox}
 use Rattle.std.specs.declared.alloc.Global.{Global}
@@ -7,6 +7,7 @@ use Rattle.protocol_steps.specs.View.{View, made_of}
 use Rattle.protocol_steps.specs.Stamps.{Deed}
 use Rattle.worker_laws.specs.Cells.{CellState, EachAre}
 use Rattle.worker_laws.specs.Acts.{IsLater}
+use Rattle.worker_laws.specs.Visits.{IsQuiet}
 use Rattle.worker_laws.specs.CellRounds.{total}
 use Rattle.worker_laws.specs.Played.{ArePlayed}
 use Rattle.worker_laws.specs.StampCounts.{IsMoved}
@@ -26,17 +27,35 @@ pub record HasGoneOn (before after : CellState) : Type 0 where
 
 module _ {X : Type 0} {F : X → Type 0} where
   -- a visit of the cell from this state has failed with this fault: its agent is still the one that
-  -- was made, and if the fault is that stamps ran out, the visit has found the greatest stamp
+  -- was made, its journal is as it was, and if the fault is that stamps ran out, the visit has found
+  -- the greatest stamp
   pub record HasFailedVisit (meaning : DynBox X Global F → View) (fault : VisitFault) (before : CellState) (after : Cell X F) : Type 0 where
     pub failed : fault_in after ≡ Some fault
     pub origin : made_of (state_of meaning after).view ≡ made_of before.view
+    pub noted : (state_of meaning after).journal ≡ before.journal
     pub end : fault ≡ StampEnd → HasReachedEnd before (state_of meaning after)
 
-  -- the cell is in this state and has not failed, or a visit from this state has failed; if `fault`
-  -- is that stamps ran out, so is the cell's own fault
+  -- a visit of the cell from this state has failed; if `fault` is that stamps ran out, so is the
+  -- cell's own fault
+  abbrev pub FailsUnder : (DynBox X Global F → View) → VisitFault → CellState → Cell X F → Type 0
+  FailsUnder meaning fault s c = (own : VisitFault) × (fault ≡ StampEnd → own ≡ StampEnd) × HasFailedVisit meaning own s c
+
+  -- the cell is in this state and has not failed, or a visit from this state has failed
   abbrev pub StandsOrFails : (DynBox X Global F → View) → VisitFault → CellState → Cell X F → Type 0
-  StandsOrFails meaning fault s c = ((state_of meaning c ≡ s) × (fault_in c ≡ None))
-      ⊎ ((own : VisitFault) × (fault ≡ StampEnd → own ≡ StampEnd) × HasFailedVisit meaning own s c)
+  StandsOrFails meaning fault s c = ((state_of meaning c ≡ s) × (fault_in c ≡ None)) ⊎ FailsUnder meaning fault s c
+
+  -- the cell has not changed, whether it had failed or not; or it had not failed, and a visit of it
+  -- has failed
+  abbrev pub StaysOrFails : (DynBox X Global F → View) → VisitFault → Cell X F → Cell X F → Type 0
+  StaysOrFails meaning fault before after = (after ≡ before)
+      ⊎ ((fault_in before ≡ None) × FailsUnder meaning fault (state_of meaning before) after)
+
+  -- R holds of the cell's state before and after, and the cell has the fault that it had, if any; a
+  -- cell that had failed has at most been settled
+  pub record GoesOn (meaning : DynBox X Global F → View) (R : CellState → CellState → Type 0) (before after : Cell X F) : Type 0 where
+    pub gone : R (state_of meaning before) (state_of meaning after)
+    pub fault : fault_in after ≡ fault_in before
+    pub rests : fault_in before ≢ None → IsQuiet (state_of meaning before) (state_of meaning after)
 
   -- 1 if the cell has failed, and 0 if it has not
   abbrev pub failure : Cell X F → ℕ
@@ -46,9 +65,20 @@ module _ {X : Type 0} {F : X → Type 0} where
   abbrev pub failures : List (Cell X F) → ℕ
   failures cells = sum_by failure cells
 
-  -- R holds of each cell's state before and of a later state; up to these states all cells together
-  -- took at most `limit` messages for each of them; since then each cell has not changed, or a
-  -- visit of it has failed; at most `most_failed` cells have failed
+  -- cells whose playing a fault has cut short; some may have failed before. Each has gone on by R,
+  -- and all together took at most `limit` messages for each of them. Since then each has not
+  -- changed, or a visit of it has failed. At most `most_failed` more have failed than before.
+  pub record AreCutShort (meaning : DynBox X Global F → View) (fault : VisitFault) (R : CellState → CellState → Type 0) (limit most_failed : ℕ) (before after : List (Cell X F)) : Type 0 where
+    pub stood : List (Cell X F)
+    pub gone : EachBecomes (GoesOn meaning R) before stood
+    pub most : total (states_of meaning stood) ≤ total (states_of meaning before) + length before * limit
+    pub came : EachBecomes (StaysOrFails meaning fault) stood after
+    pub few : failures after ≤ failures before + most_failed
+
+  -- the same by their states, of cells of which none had failed. R holds of each cell's state
+  -- before and of a later state; up to these states all cells together took at most `limit`
+  -- messages for each of them; since then each cell has not changed, or a visit of it has failed;
+  -- at most `most_failed` cells have failed.
   pub record ArePartlyPlayed (meaning : DynBox X Global F → View) (fault : VisitFault) (R : CellState → CellState → Type 0) (limit most_failed : ℕ) (before : List CellState) (after : List (Cell X F)) : Type 0 where
     pub stood : List CellState
     pub gone : EachAre R before stood

@@ -33,19 +33,24 @@ module _ {X : Type 0} {F : X → Type 0} where
     pub ready : IsReady meaning after
 
   -- a cell as its turn leaves it, which took `count` messages: as a visit leaves it if it had not
-  -- ended, and unchanged if it had
+  -- ended, and unchanged if it had; a cell that is visited so had not failed
   pub record HasTurned (meaning : DynBox X Global F → View) (count : ℕ) (before after : Cell X F) : Type 0 where
     pub rests : ended_of (state_of meaning before).view ≡ true → (after ≡ before) × (count ≡ 0)
     pub visit : ended_of (state_of meaning before).view ≡ false → IsVisit (state_of meaning before) count (state_of meaning after) × (fault_in after ≡ None)
+    pub fine : ended_of (state_of meaning before).view ≡ false → fault_in before ≡ None
 
   -- the same; or, if not `all` cells have a turn, the cell has not changed and took nothing
   abbrev pub MayHaveTurned : (DynBox X Global F → View) → Bool → ℕ → Cell X F → Cell X F → Type 0
   MayHaveTurned meaning all count before after = HasTurned meaning count before after ⊎ ((all ≡ false) × (after ≡ before) × (count ≡ 0))
 
-  -- a cell was visited at most `visits` times
+  -- the cell has not changed; or it had not failed, and has not failed since
+  abbrev pub StaysFine : Cell X F → Cell X F → Type 0
+  StaysFine before after = (after ≡ before) ⊎ ((fault_in before ≡ None) × (fault_in after ≡ None))
+
+  -- a cell was visited at most `visits` times; if it had failed, it has not changed
   pub record HasSprinted (meaning : DynBox X Global F → View) (visits : ℕ) (before after : Cell X F) : Type 0 where
     pub sprint : IsSprint visits (state_of meaning before) (state_of meaning after)
-    pub fault : fault_in before ≡ None → fault_in after ≡ None
+    pub fault : StaysFine before after
 
   -- a cell has failed with this fault
   pub record SomeFailed (fault : VisitFault) (cells : List (Cell X F)) : Type 0 where

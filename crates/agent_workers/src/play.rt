@@ -1,15 +1,15 @@
 //! Playing cells: turns, sprints of turns, and concurrent parts.
 
-ghost use Rattle.std.specs.Prelude.{◌≡◌, ◌≤◌, ◌<◌, ◌*◌, ℕ, Bool, length, true, false, IfOk, OnOk, IfErr, None, Some};
+ghost use Rattle.std.specs.Prelude.{◌≡◌, ◌≤◌, ◌<◌, ◌*◌, ℕ, Bool, length, true, false, IfOk, OnOk, IfErr, IfSome, None, Some};
 ghost use Rattle.dcop_base.specs.Limits.{variable_limit};
 ghost use Rattle.protocol_steps.specs.Rounds.{most_events};
 ghost use Rattle.worker_laws.specs.Cells.{known_from};
 ghost use Rattle.agent_cells.specs.State.{state_of, fault_in};
-ghost use Rattle.agent_workers.specs.Joined.{states_of, EachIs, EachBecomes};
+ghost use Rattle.agent_workers.specs.Joined.{EachIs, EachBecomes};
 ghost use Rattle.agent_workers.specs.Turns.{visit_limit, sprint_limit, IsReady, StaysReady, HasTurned, SomeFailed, AreTurning, HavePlayed};
 ghost use Rattle.agent_workers.specs.Watched.{IsUnmarked, MarksReceivers, all_due, MayBePassed, NeedsNoVisit, MarksKnowing, MarksWaiting, PassesUnmarked, IsPlayedInTurns};
 ghost use Rattle.agent_workers.specs.Shared.{ArePlayedInParts};
-ghost use Rattle.agent_workers.specs.Broken.{HasGoneOn, HasFailedVisit, ArePartlyPlayed};
+ghost use Rattle.agent_workers.specs.Broken.{HasGoneOn, HasFailedVisit, AreCutShort};
 
 use crate::parts::play_parts;
 use crate::watch::Watch;
@@ -44,9 +44,7 @@ pub(crate) fn play_cells<R: Threads + Sync, G: Gate>(
     ensures turns { length cells.old ≤ size → OnOk result (IsPlayedInTurns (λ b. meaning (b.vtable, b.value)) true cells.old cells.new) }
     ensures err { IfErr result (λ f. SomeFailed f cells.new) }
     ensures left { (parts : ℕ) → 0 < parts → length cells.old ≤ parts * size
-        → IfErr result (λ f. EachIs (λ c. fault_in c ≡ None) cells.old
-        → ArePartlyPlayed (λ b. meaning (b.vtable, b.value)) f HasGoneOn sprint_limit parts
-        (states_of (λ b. meaning (b.vtable, b.value)) cells.old) cells.new) }
+        → IfErr result (λ f. AreCutShort (λ b. meaning (b.vtable, b.value)) f HasGoneOn sprint_limit parts cells.old cells.new) }
 {
     let alone = cells.len() <= size;
     let play = |part: &mut [Cell]| -> Result<u64, VisitFault>
@@ -54,9 +52,7 @@ pub(crate) fn play_cells<R: Threads + Sync, G: Gate>(
         ensures ready { EachBecomes (λ a b. StaysReady (λ b. meaning (b.vtable, b.value)) a b) part.entry.now part.exit.now }
         ensures ok { IfOk result (λ n. HavePlayed (λ b. meaning (b.vtable, b.value)) n part.entry.now part.exit.now) }
         ensures err { IfErr result (λ f. SomeFailed f part.exit.now) }
-        ensures left { IfErr result (λ f. EachIs (λ c. fault_in c ≡ None) part.entry.now
-            → ArePartlyPlayed (λ b. meaning (b.vtable, b.value)) f HasGoneOn sprint_limit 1
-            (states_of (λ b. meaning (b.vtable, b.value)) part.entry.now) part.exit.now) }
+        ensures left { IfErr result (λ f. AreCutShort (λ b. meaning (b.vtable, b.value)) f HasGoneOn sprint_limit 1 part.entry.now part.exit.now) }
         ensures turns { OnOk result (IsPlayedInTurns (λ b. meaning (b.vtable, b.value)) alone part.entry.now part.exit.now) }
     { play_part(gate, alone, part) };
     play_parts(rt, &play, size, busy, cells)
@@ -93,9 +89,7 @@ pub(crate) fn play_part<G: Gate>(
     ensures ok { IfOk result (λ n. HavePlayed (λ b. meaning (b.vtable, b.value)) n cells.old cells.new) }
     ensures turns { OnOk result (IsPlayedInTurns (λ b. meaning (b.vtable, b.value)) alone cells.old cells.new) }
     ensures err { IfErr result (λ f. SomeFailed f cells.new) }
-    ensures left { IfErr result (λ f. EachIs (λ c. fault_in c ≡ None) cells.old
-        → ArePartlyPlayed (λ b. meaning (b.vtable, b.value)) f HasGoneOn sprint_limit 1
-        (states_of (λ b. meaning (b.vtable, b.value)) cells.old) cells.new) }
+    ensures left { IfErr result (λ f. AreCutShort (λ b. meaning (b.vtable, b.value)) f HasGoneOn sprint_limit 1 cells.old cells.new) }
 {
     let mut watch = Watch::new();
     let mut taken = 0;
@@ -139,9 +133,7 @@ fn take_turn<G: Gate>(
     ensures marks { OnOk result (MarksWaiting (λ b. meaning (b.vtable, b.value)) watch.new.waits (length cells.old) cells.old cells.new) }
     ensures known { OnOk result (MarksKnowing (λ b. meaning (b.vtable, b.value)) watch.new.waits (length cells.old) cells.new) }
     ensures err { IfErr result (λ f. SomeFailed f cells.new) }
-    ensures left { IfErr result (λ f. EachIs (λ c. fault_in c ≡ None) cells.old
-        → ArePartlyPlayed (λ b. meaning (b.vtable, b.value)) f HasGoneOn visit_limit 1
-        (states_of (λ b. meaning (b.vtable, b.value)) cells.old) cells.new) }
+    ensures left { IfErr result (λ f. AreCutShort (λ b. meaning (b.vtable, b.value)) f HasGoneOn visit_limit 1 cells.old cells.new) }
 {
     if all {
         return visit_all(gate, alone, watch, cells);
@@ -166,9 +158,7 @@ fn visit_all<G: Gate>(
     ensures marks { OnOk result (MarksWaiting (λ b. meaning (b.vtable, b.value)) watch.new.waits (length cells.old) cells.old cells.new) }
     ensures known { OnOk result (MarksKnowing (λ b. meaning (b.vtable, b.value)) watch.new.waits (length cells.old) cells.new) }
     ensures err { IfErr result (λ f. SomeFailed f cells.new) }
-    ensures left { IfErr result (λ f. EachIs (λ c. fault_in c ≡ None) cells.old
-        → ArePartlyPlayed (λ b. meaning (b.vtable, b.value)) f HasGoneOn visit_limit 1
-        (states_of (λ b. meaning (b.vtable, b.value)) cells.old) cells.new) }
+    ensures left { IfErr result (λ f. AreCutShort (λ b. meaning (b.vtable, b.value)) f HasGoneOn visit_limit 1 cells.old cells.new) }
 {
     let mut taken = 0;
     for (place, cell) in cells.iter_mut().enumerate() {
@@ -193,9 +183,7 @@ fn visit_waiting<G: Gate>(
     ensures marks { OnOk result (MarksWaiting (λ b. meaning (b.vtable, b.value)) watch.new.waits (length cells.old) cells.old cells.new) }
     ensures known { OnOk result (MarksKnowing (λ b. meaning (b.vtable, b.value)) watch.new.waits (length cells.old) cells.new) }
     ensures err { IfErr result (λ f. SomeFailed f cells.new) }
-    ensures left { IfErr result (λ f. EachIs (λ c. fault_in c ≡ None) cells.old
-        → ArePartlyPlayed (λ b. meaning (b.vtable, b.value)) f HasGoneOn visit_limit 1
-        (states_of (λ b. meaning (b.vtable, b.value)) cells.old) cells.new) }
+    ensures left { IfErr result (λ f. AreCutShort (λ b. meaning (b.vtable, b.value)) f HasGoneOn visit_limit 1 cells.old cells.new) }
 {
     let mut taken = 0;
     let mut from = 0;
@@ -229,6 +217,7 @@ fn visit_once<G: Gate>(
     ensures left { IfErr result (λ f. fault_in cell.old ≡ None
         → HasFailedVisit (λ b. meaning (b.vtable, b.value)) f
         (state_of (λ b. meaning (b.vtable, b.value)) cell.old) cell.new) }
+    ensures again { IfErr result (λ f. IfSome (fault_in cell.old) (λ own. cell.new ≡ cell.old)) }
 {
     let marked = watch.look(place);
     if is_idle(known && !marked, cell) {

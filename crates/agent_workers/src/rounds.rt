@@ -9,7 +9,7 @@ ghost use Rattle.agent_workers.specs.Joined.{states_of, EachIs, EachBecomes, Has
 ghost use Rattle.agent_workers.specs.Turns.{sprint_limit, SomeFailed};
 ghost use Rattle.agent_workers.specs.Watched.{IsTurnRound};
 ghost use Rattle.agent_workers.specs.Shared.{IsSharedRound};
-ghost use Rattle.agent_workers.specs.Broken.{ArePartlyPlayed};
+ghost use Rattle.agent_workers.specs.Broken.{AreCutShort};
 
 use crate::play::play_cells;
 use crate::settle::settle_all;
@@ -38,10 +38,11 @@ pub type CellsList = Vec<Cell>;
 /// part sends to another during a turn has no place in the order of the visits, so no clause speaks
 /// of it.
 ///
-/// After a fault a cell has failed with this fault. If none had failed before the round, the clause
-/// `left` says how the cells are left. Each that has not failed is as some activations leave it. At
-/// most one for each worker has failed. Of a cell whose visit ran out of memory, the clause says only
-/// that its agent is still the one that was made.
+/// After a fault a cell has failed with this fault. The clause `left` says how the cells are left.
+/// Each that has not failed is as some activations leave it. One that had failed before the round
+/// has the same fault and has at most been settled. At most one for each worker has failed in the
+/// round. Of a cell whose visit ran out of memory, the clause says only that its agent is still the
+/// one that was made, and that its journal is as it was.
 pub fn round<R: Threads + Sync, G: Gate>(
     rt: &R,
     cells: &mut CellsList,
@@ -63,9 +64,7 @@ pub fn round<R: Threads + Sync, G: Gate>(
     ensures most { IfOk result (λ n. n ≤ length cells.old.items * sprint_limit) }
     ensures fine { OnOk result (EachBecomes (λ a b. fault_in a ≡ None → fault_in b ≡ None) cells.old.items cells.new.items) }
     ensures err { IfErr result (λ f. SomeFailed f cells.new.items) }
-    ensures left { IfErr result (λ f. EachIs (λ c. fault_in c ≡ None) cells.old.items
-        → ArePartlyPlayed (λ b. meaning (b.vtable, b.value)) f IsMoved sprint_limit workers
-        (states_of (λ b. meaning (b.vtable, b.value)) cells.old.items) cells.new.items) }
+    ensures left { IfErr result (λ f. AreCutShort (λ b. meaning (b.vtable, b.value)) f IsMoved sprint_limit workers cells.old.items cells.new.items) }
 {
     play_round(rt, cells.as_mut_slice(), nodes, workers, gate)
 }
@@ -92,9 +91,7 @@ pub fn play_round<R: Threads + Sync, G: Gate>(
     ensures most { IfOk result (λ n. n ≤ length cells.old * sprint_limit) }
     ensures fine { OnOk result (EachBecomes (λ a b. fault_in a ≡ None → fault_in b ≡ None) cells.old cells.new) }
     ensures err { IfErr result (λ f. SomeFailed f cells.new) }
-    ensures left { IfErr result (λ f. EachIs (λ c. fault_in c ≡ None) cells.old
-        → ArePartlyPlayed (λ b. meaning (b.vtable, b.value)) f IsMoved sprint_limit workers
-        (states_of (λ b. meaning (b.vtable, b.value)) cells.old) cells.new) }
+    ensures left { IfErr result (λ f. AreCutShort (λ b. meaning (b.vtable, b.value)) f IsMoved sprint_limit workers cells.old cells.new) }
 {
     let size = cells.len().div_ceil(workers as usize).max(1);
     let waiting = settle_all(cells, nodes, size);

@@ -1,6 +1,6 @@
 //! What a cell does with what it took.
 
-ghost use Rattle.std.specs.Prelude.{◌≡◌, ◌≤◌, ◌∷◌, [], ◌++◌, OnOk, Err};
+ghost use Rattle.std.specs.Prelude.{◌≡◌, ◌≤◌, ◌∷◌, [], ◌++◌, OnOk, OnErr, Err};
 ghost use Rattle.std.specs.List.Sorted.{IsStrictlyIncreasing};
 ghost use Rattle.dcop_base.specs.Limits.{amount_limit};
 ghost use Rattle.protocol_steps.specs.View.{made_of};
@@ -23,13 +23,15 @@ use protocol_steps::{Batch, Entry, Journal, TakeList};
 use std::alloc::Global;
 use std::mem;
 
-/// Appends an entry to a journal.
+/// Appends an entry to a journal. If memory runs out, the journal is as it was.
 fn note(alloc: Global, journal: &mut Journal, entry: Entry) -> Result<(), NoMemory>
-    ensures { OnOk result (journal.new ≡ journal.old ++ entry ∷ []) }
+    ensures noted { OnOk result (journal.new ≡ journal.old ++ entry ∷ []) }
+    ensures kept { OnErr result (journal.new ≡ journal.old) }
 {
     let mut entries = mem::replace(journal, Journal::from_vec(Vec::new(alloc))).into_vec();
-    entries.push(entry)?;
+    let noted = entries.push(entry);
     *journal = Journal::from_vec(entries);
+    noted?;
     Ok(())
 }
 
@@ -50,6 +52,7 @@ impl Cell {
         ensures origin { made_of (meaning self.new.machine) ≡ made_of (meaning self.old.machine) }
         ensures ok { OnOk result (IsHandled (state_of (λ b. meaning b) self.old)
             taken.letters.items taken.takes.items taken.greatest (state_of (λ b. meaning b) self.new)) }
+        ensures noted { OnErr result (self.new.journal ≡ self.old.journal) }
         ensures end { result ≡ Err StampEnd → IsAtEnd (state_of (λ b. meaning b) self.old)
             taken.greatest (state_of (λ b. meaning b) self.new) }
         ensures stay { StayMarked marks.old marks.new }

@@ -1,6 +1,6 @@
 //! A visit of a cell.
 
-ghost use Rattle.std.specs.Prelude.{◌≡◌, ◌≤◌, ◌+◌, ◌⊎◌, true, false, IfOk, OnOk, IfErr, IfSome, Err, None, Some};
+ghost use Rattle.std.specs.Prelude.{◌≡◌, ◌≤◌, ◌+◌, ◌⊎◌, true, false, IfOk, OnOk, IfErr, OnErr, IfSome, Err, None, Some};
 ghost use Rattle.dcop_base.specs.Limits.{amount_limit};
 ghost use Rattle.protocol_steps.specs.View.{made_of, ended_of};
 ghost use Rattle.worker_laws.specs.Visits.{IsVisit};
@@ -26,8 +26,8 @@ impl Cell {
     ///
     /// [`VisitFault::NoMemory`] if memory runs out. [`VisitFault::StampEnd`] only if something was
     /// taken and the greatest of the cell's stamp and the taken stamps is `CAP`; the agent has then
-    /// not reacted and nothing was sent. After a fault the cell has failed, and returns the same
-    /// fault at every later visit.
+    /// not reacted and nothing was sent. After a fault the cell has failed, has the journal that it
+    /// had, and returns the same fault at every later visit.
     pub fn visit<G: Gate>(&mut self, gate: &G) -> Result<u64, VisitFault>
         requires cell { IsCell (λ b. meaning b) self.old }
         requires begun { begun_in self.old ≡ true }
@@ -43,6 +43,7 @@ impl Cell {
         ensures bounded { (state_of (λ b. meaning b) self.new).stamp ≤ amount_limit }
         ensures err { IfErr result (λ f. fault_in self.new ≡ Some f) }
         ensures again { IfSome (fault_in self.old) (λ f. (result ≡ Err f) × (self.new ≡ self.old)) }
+        ensures noted { OnErr result ((state_of (λ b. meaning b) self.new).journal ≡ (state_of (λ b. meaning b) self.old).journal) }
         ensures end { result ≡ Err StampEnd → (fault_in self.old ≡ Some StampEnd)
             ⊎ HasReachedEnd (state_of (λ b. meaning b) self.old) (state_of (λ b. meaning b) self.new) }
     {
@@ -71,6 +72,7 @@ impl Cell {
         ensures bounded { (state_of (λ b. meaning b) self.new).stamp ≤ amount_limit }
         ensures err { IfErr result (λ f. fault_in self.new ≡ Some f) }
         ensures again { IfSome (fault_in self.old) (λ f. (result ≡ Err f) × (self.new ≡ self.old)) }
+        ensures noted { OnErr result ((state_of (λ b. meaning b) self.new).journal ≡ (state_of (λ b. meaning b) self.old).journal) }
         ensures end { result ≡ Err StampEnd → (fault_in self.old ≡ Some StampEnd)
             ⊎ HasReachedEnd (state_of (λ b. meaning b) self.old) (state_of (λ b. meaning b) self.new) }
         ensures stay { StayMarked marks.old marks.new }
@@ -102,6 +104,7 @@ impl Cell {
         ensures visits { self.new.visits ≡ self.old.visits }
         ensures origin { made_of (meaning self.new.machine) ≡ made_of (meaning self.old.machine) }
         ensures ok { IfOk result (λ n. IsVisit (state_of (λ b. meaning b) self.old) n (state_of (λ b. meaning b) self.new)) }
+        ensures noted { OnErr result (self.new.journal ≡ self.old.journal) }
         ensures end { result ≡ Err StampEnd → HasReachedEnd (state_of (λ b. meaning b) self.old) (state_of (λ b. meaning b) self.new) }
         ensures stay { StayMarked marks.old marks.new }
         ensures marked { OnOk result (LeavesUnmarked marks.new

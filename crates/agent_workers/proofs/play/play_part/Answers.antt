@@ -1,8 +1,6 @@
-use Rattle.std.proofs.Common.{◌≡◌, ◌+◌, None, arith}
-use Rattle.agent_cells.specs.State.{fault_in}
-use Rattle.agent_workers.specs.Joined.{states_of, EachIs}
+use Rattle.std.proofs.Common.{◌+◌, arith}
 use Rattle.agent_workers.specs.Turns.{sprint_limit, SomeFailed}
-use Rattle.agent_workers.specs.Broken.{HasGoneOn, ArePartlyPlayed}
+use Rattle.agent_workers.specs.Broken.{HasGoneOn, AreCutShort}
 use Rattle.agent_workers.proofs.BreakLaws.{err_on, sprint_left}
 use Rattle.agent_workers.proofs.PlayLaws.{sprint_none, sprint_more, played_by, all_ready, each_ready_then}
 use Rattle.agent_workers.proofs.TurnLaws.{no_turns, one_turn_more, still_part, spent_part, later}
@@ -49,8 +47,8 @@ returns-clause-ok g c = let t = c.loop-turn-test.false in
 
 pub returns-in_err-more-clause-left : goal.returns-in_err-more-clause-left
 returns-in_err-more-clause-left g c =
-    err_on c.from_residual.result _ (λ f. EachIs (λ c. fault_in c ≡ None) c.args.cells.now → ArePartlyPlayed (λ b. (goal.Machine-dyn g (b.vtable, b.value)).meaning b.value) f HasGoneOn sprint_limit 1 (states_of (λ b. (goal.Machine-dyn g (b.vtable, b.value)).meaning b.value) c.args.cells.now) c.take_turn.new.cells) c.from_residual.ensures.1
-    (λ fine. sprint_left (λ b. (goal.Machine-dyn g (b.vtable, b.value)).meaning b.value) c.loop-turn.turn c.loop-turn.taken _ c.args.cells.now c.loop-turn.cells c.take_turn.new.cells c.loop-turn-test.true c.loop-turn.invariant.0 c.in_err-more.ensures.left fine)
+    err_on c.from_residual.result _ (λ f. AreCutShort (λ b. (goal.Machine-dyn g (b.vtable, b.value)).meaning b.value) f HasGoneOn sprint_limit 1 c.args.cells.now c.take_turn.new.cells) c.from_residual.ensures.1
+    (sprint_left (λ b. (goal.Machine-dyn g (b.vtable, b.value)).meaning b.value) c.loop-turn.turn c.loop-turn.taken _ c.args.cells.now c.loop-turn.cells c.take_turn.new.cells c.loop-turn-test.true c.loop-turn.invariant.0 c.in_err-more.ensures.left)
 
 pub returns-in_err-more-clause-err : goal.returns-in_err-more-clause-err
 returns-in_err-more-clause-err g c = err_on c.from_residual.result _ (λ f. SomeFailed f c.take_turn.new.cells) c.from_residual.ensures.1 c.in_err-more.ensures.err

@@ -1,8 +1,6 @@
-use Rattle.std.proofs.Common.{◌≡◌, true, None, ◌+◌, inl, inr, refl, set, arith}
-use Rattle.agent_cells.specs.State.{fault_in}
-use Rattle.agent_workers.specs.Joined.{states_of, EachIs}
+use Rattle.std.proofs.Common.{true, ◌+◌, inl, inr, refl, set, arith}
 use Rattle.agent_workers.specs.Turns.{visit_limit}
-use Rattle.agent_workers.specs.Broken.{HasGoneOn, ArePartlyPlayed}
+use Rattle.agent_workers.specs.Broken.{HasGoneOn, AreCutShort}
 use Rattle.agent_workers.proofs.BreakLaws.{err_on, turn_left}
 use Rattle.agent_workers.proofs.PlayLaws.{turn_none, turn_more, turn_ready, ready_at, failed_set, failed_on}
 use Rattle.agent_workers.proofs.TurnLaws.{waiting_none, waiting_more, waiting_past, knowing_set, passing_none, passing_more, passing_all}
@@ -44,8 +42,8 @@ returns-clause-marks g c = waiting_past (λ b. (goal.Machine-dyn g (b.vtable, b.
 
 pub returns-in_err-taken-clause-left : goal.returns-in_err-taken-clause-left
 returns-in_err-taken-clause-left g c =
-    err_on c.from_residual.result _ (λ f. EachIs (λ c. fault_in c ≡ None) c.args.cells.now → ArePartlyPlayed (λ b. (goal.Machine-dyn g (b.vtable, b.value)).meaning b.value) f HasGoneOn visit_limit 1 (states_of (λ b. (goal.Machine-dyn g (b.vtable, b.value)).meaning b.value) c.args.cells.now) (set c.loop-place.cells c.loop-place.place c.visit_once.new.cell)) c.from_residual.ensures.1
-    (λ fine. turn_left (λ b. (goal.Machine-dyn g (b.vtable, b.value)).meaning b.value) true c.loop-place.place c.loop-place.taken _ c.args.cells.now c.loop-place.cells c.index-cells-place.result c.visit_once.new.cell c.loop-place.invariant.0 (let test = c.loop-place-test.true in let size = c.loop-place.invariant.0.ready.size in omega (arith, test, size)) c.in_err-taken.ensures.left fine)
+    err_on c.from_residual.result _ (λ f. AreCutShort (λ b. (goal.Machine-dyn g (b.vtable, b.value)).meaning b.value) f HasGoneOn visit_limit 1 c.args.cells.now (set c.loop-place.cells c.loop-place.place c.visit_once.new.cell)) c.from_residual.ensures.1
+    (turn_left (λ b. (goal.Machine-dyn g (b.vtable, b.value)).meaning b.value) true c.loop-place.place c.loop-place.taken _ c.args.cells.now c.loop-place.cells c.index-cells-place.result c.visit_once.new.cell c.loop-place.invariant.0 (let test = c.loop-place-test.true in let size = c.loop-place.invariant.0.ready.size in omega (arith, test, size)) c.in_err-taken.ensures.left c.in_err-taken.ensures.again)
 
 pub returns-clause-known : goal.returns-clause-known
 returns-clause-known g c = λ i d at lt un. c.loop-place.invariant.3 i d at (let test = c.loop-place-test.false in let size = c.loop-place.invariant.0.ready.size in omega (arith, test, size, lt)) un

@@ -1,7 +1,8 @@
-use Rattle.std.proofs.Common.{refl, sym, subst, ◌∙◌, inl, inr, arith}
+use Rattle.std.proofs.Common.{◌≡◌, refl, sym, subst, ◌∙◌, inl, inr, arith}
 use Rattle.agent_cells.specs.Marked.{LeavesUnmarked}
-use Rattle.agent_cells.specs.State.{state_of}
-use Rattle.agent_workers.proofs.CellLaws.{idle_turn, ended_once, not_true, not_both}
+use Rattle.agent_cells.specs.State.{state_of, fault_in}
+use Rattle.agent_workers.proofs.BreakLaws.{unchanged}
+use Rattle.agent_workers.proofs.CellLaws.{idle_turn, ended_turn, ended_once, live_turn, live_once, not_true, not_both}
 use Rattle.agent_workers.proofs.PlayLaws.{visited_ready}
 use Rattle.agent_workers.proofs.SentLaws.{visit_marks, quiet_marks}
 use Rattle.agent_workers.proofs.play.visit_once.Goals as goal
@@ -51,3 +52,21 @@ returns-else-taken-gt0-clause-marks g c =
     let none = c.if-taken-gt0.false in
     quiet_marks (λ b. (goal.Machine-dyn g (b.vtable, b.value)).meaning b.value) c.args.place c.args.watch.now.waits c.keep_own.new.self.waits c.args.cell.now c.visit_marking.new.self
     (λ k other un. c.look-marked.ensures.kept k other (c.keep_own.ensures.kept k un)) (c.in_ok-taken.ensures.ok.idle (omega (arith, none))).sent
+
+pub returns-then-ended-clause-ok : goal.returns-then-ended-clause-ok
+returns-then-ended-clause-ok g c = ended_turn (λ b. (goal.Machine-dyn g (b.vtable, b.value)).meaning b.value) c.args.cell.now (sym c.ended.ensures ∙ c.if-ended.true)
+
+pub returns-then-taken-gt0-clause-ok : goal.returns-then-taken-gt0-clause-ok
+returns-then-taken-gt0-clause-ok g c = live_turn (λ b. (goal.Machine-dyn g (b.vtable, b.value)).meaning b.value) _ c.visit_marking.result c.args.cell.now c.visit_marking.new.self (sym c.ended.ensures ∙ c.if-ended.false) c.in_ok-taken.ensures.ok c.in_ok-taken.ensures.fine c.visit_marking.ensures.again
+
+pub returns-else-taken-gt0-clause-ok : goal.returns-else-taken-gt0-clause-ok
+returns-else-taken-gt0-clause-ok g c = live_turn (λ b. (goal.Machine-dyn g (b.vtable, b.value)).meaning b.value) _ c.visit_marking.result c.args.cell.now c.visit_marking.new.self (sym c.ended.ensures ∙ c.if-ended.false) c.in_ok-taken.ensures.ok c.in_ok-taken.ensures.fine c.visit_marking.ensures.again
+
+pub returns-then-taken-gt0-clause-turn : goal.returns-then-taken-gt0-clause-turn
+returns-then-taken-gt0-clause-turn g c = inl (live_once (λ b. (goal.Machine-dyn g (b.vtable, b.value)).meaning b.value) _ c.args.cell.now c.visit_marking.new.self (live_turn (λ b. (goal.Machine-dyn g (b.vtable, b.value)).meaning b.value) _ c.visit_marking.result c.args.cell.now c.visit_marking.new.self (sym c.ended.ensures ∙ c.if-ended.false) c.in_ok-taken.ensures.ok c.in_ok-taken.ensures.fine c.visit_marking.ensures.again) c.in_ok-taken.ensures.once)
+
+pub returns-else-taken-gt0-clause-turn : goal.returns-else-taken-gt0-clause-turn
+returns-else-taken-gt0-clause-turn g c = inl (live_once (λ b. (goal.Machine-dyn g (b.vtable, b.value)).meaning b.value) _ c.args.cell.now c.visit_marking.new.self (live_turn (λ b. (goal.Machine-dyn g (b.vtable, b.value)).meaning b.value) _ c.visit_marking.result c.args.cell.now c.visit_marking.new.self (sym c.ended.ensures ∙ c.if-ended.false) c.in_ok-taken.ensures.ok c.in_ok-taken.ensures.fine c.visit_marking.ensures.again) c.in_ok-taken.ensures.once)
+
+pub returns-in_err-taken-clause-again : goal.returns-in_err-taken-clause-again
+returns-in_err-taken-clause-again g c = unchanged c.from_residual.result c.visit_marking.result (fault_in c.args.cell.now) (c.visit_marking.new.self ≡ c.args.cell.now) c.visit_marking.ensures.again

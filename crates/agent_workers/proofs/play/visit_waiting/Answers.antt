@@ -1,8 +1,6 @@
-use Rattle.std.proofs.Common.{◌≡◌, false, None, length, subst, inl, set, arith}
-use Rattle.agent_cells.specs.State.{fault_in}
-use Rattle.agent_workers.specs.Joined.{states_of, EachIs}
+use Rattle.std.proofs.Common.{false, length, subst, inl, set, arith}
 use Rattle.agent_workers.specs.Turns.{visit_limit}
-use Rattle.agent_workers.specs.Broken.{HasGoneOn, ArePartlyPlayed}
+use Rattle.agent_workers.specs.Broken.{HasGoneOn, AreCutShort}
 use Rattle.agent_workers.proofs.BreakLaws.{err_on, turn_left}
 use Rattle.agent_workers.proofs.PlayLaws.{turn_none, turn_more, turn_past, turn_ready, ready_at, failed_set, failed_on}
 use Rattle.agent_workers.specs.Watched.{AreCellsUnmarked}
@@ -52,8 +50,8 @@ returns-clause-marks g c = waiting_past (λ b. (goal.Machine-dyn g (b.vtable, b.
 
 pub returns-in_err-taken-clause-left : goal.returns-in_err-taken-clause-left
 returns-in_err-taken-clause-left g c =
-    err_on c.from_residual.result _ (λ f. EachIs (λ c. fault_in c ≡ None) c.args.cells.now → ArePartlyPlayed (λ b. (goal.Machine-dyn g (b.vtable, b.value)).meaning b.value) f HasGoneOn visit_limit 1 (states_of (λ b. (goal.Machine-dyn g (b.vtable, b.value)).meaning b.value) c.args.cells.now) (set c.loop-place.cells c.in-Some.place c.visit_once.new.cell)) c.from_residual.ensures.1
-    (λ fine. turn_left (λ b. (goal.Machine-dyn g (b.vtable, b.value)).meaning b.value) false c.in-Some.place c.loop-place.taken _ c.args.cells.now c.loop-place.cells c.index-cells-place.result c.visit_once.new.cell (turn_past (λ b. (goal.Machine-dyn g (b.vtable, b.value)).meaning b.value) c.loop-place.from c.in-Some.place c.loop-place.taken c.args.cells.now c.loop-place.cells c.in-Some.ensures.within.0 c.loop-place.invariant.0) c.in-Some.ensures.within.1 c.in_err-taken.ensures.left fine)
+    err_on c.from_residual.result _ (λ f. AreCutShort (λ b. (goal.Machine-dyn g (b.vtable, b.value)).meaning b.value) f HasGoneOn visit_limit 1 c.args.cells.now (set c.loop-place.cells c.in-Some.place c.visit_once.new.cell)) c.from_residual.ensures.1
+    (turn_left (λ b. (goal.Machine-dyn g (b.vtable, b.value)).meaning b.value) false c.in-Some.place c.loop-place.taken _ c.args.cells.now c.loop-place.cells c.index-cells-place.result c.visit_once.new.cell (turn_past (λ b. (goal.Machine-dyn g (b.vtable, b.value)).meaning b.value) c.loop-place.from c.in-Some.place c.loop-place.taken c.args.cells.now c.loop-place.cells c.in-Some.ensures.within.0 c.loop-place.invariant.0) c.in-Some.ensures.within.1 c.in_err-taken.ensures.left c.in_err-taken.ensures.again)
 
 pub returns-clause-known : goal.returns-clause-known
 returns-clause-known g c = c.loop-place.invariant.4

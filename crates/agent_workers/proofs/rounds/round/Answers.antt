@@ -5,9 +5,9 @@ use Rattle.agent_workers.specs.Shared.{IsSharedRound}
 use Rattle.std.specs.Prelude.{OnOk, IfErr}
 use Rattle.agent_cells.specs.State.{fault_in}
 use Rattle.agent_cells.proofs.CellLaws.{written}
-use Rattle.agent_workers.specs.Joined.{states_of, EachIs, EachBecomes, HasBegun, IsSameCell, AreCellsJoined}
+use Rattle.agent_workers.specs.Joined.{EachIs, EachBecomes, HasBegun, IsSameCell, AreCellsJoined}
 use Rattle.agent_workers.specs.Turns.{sprint_limit, SomeFailed}
-use Rattle.agent_workers.specs.Broken.{ArePartlyPlayed}
+use Rattle.agent_workers.specs.Broken.{AreCutShort}
 use Rattle.worker_laws.specs.StampCounts.{IsMoved}
 use Rattle.agent_workers.proofs.ListLaws.{carry}
 use Rattle.agent_workers.proofs.rounds.round.Goals as goal
@@ -40,4 +40,4 @@ pub returns-clause-parts : goal.returns-clause-parts
 returns-clause-parts g c = carry (λ old new. OnOk c.play_round.result (IsSharedRound (λ b. (goal.Machine-dyn g (b.vtable, b.value)).meaning b.value) c.args.workers (home c.args.nodes (length old)) old new)) _ _ _ _ c.as_mut_slice.ensures.value (written _ c.args.cells.now.items c.play_round.new.cells c.as_mut_slice.result.now c.args.cells.now.ok.0 c.play_round.ensures.same.size c.as_mut_slice.ensures.value) c.play_round.ensures.parts
 
 pub returns-clause-left : goal.returns-clause-left
-returns-clause-left g c = carry (λ old new. IfErr c.play_round.result (λ f. EachIs (λ x. fault_in x ≡ None) old → ArePartlyPlayed (λ b. (goal.Machine-dyn g (b.vtable, b.value)).meaning b.value) f IsMoved sprint_limit c.args.workers (states_of (λ b. (goal.Machine-dyn g (b.vtable, b.value)).meaning b.value) old) new)) _ _ _ _ c.as_mut_slice.ensures.value (written _ c.args.cells.now.items c.play_round.new.cells c.as_mut_slice.result.now c.args.cells.now.ok.0 c.play_round.ensures.same.size c.as_mut_slice.ensures.value) c.play_round.ensures.left
+returns-clause-left g c = carry (λ old new. IfErr c.play_round.result (λ f. AreCutShort (λ b. (goal.Machine-dyn g (b.vtable, b.value)).meaning b.value) f IsMoved sprint_limit c.args.workers old new)) _ _ _ _ c.as_mut_slice.ensures.value (written _ c.args.cells.now.items c.play_round.new.cells c.as_mut_slice.result.now c.args.cells.now.ok.0 c.play_round.ensures.same.size c.as_mut_slice.ensures.value) c.play_round.ensures.left

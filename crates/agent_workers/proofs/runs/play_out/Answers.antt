@@ -1,9 +1,9 @@
 use Rattle.std.proofs.Common.{sym, ◌∙◌, arith}
 use Rattle.worker_laws.specs.StampCounts.{IsMoved}
 use Rattle.agent_workers.specs.Joined.{states_of}
-use Rattle.agent_workers.specs.Turns.{SomeFailed}
+use Rattle.agent_workers.specs.Turns.{sprint_limit, SomeFailed}
 use Rattle.agent_workers.specs.Broken.{HaveBrokenOff}
-use Rattle.agent_workers.proofs.BreakLaws.{err_on, left_more}
+use Rattle.agent_workers.proofs.BreakLaws.{err_on, left_more, partly_of}
 use Rattle.agent_workers.proofs.RunLaws.{same_all, same_then, none_played, all_played, busy_played, ended_states, whole_round, played_on, idle_on, fine_still, so_far_start, so_far_on, shared_none, shared_on, shared_all}
 use Rattle.agent_workers.proofs.runs.play_out.Goals as goal
 
@@ -83,7 +83,7 @@ returns-in_err-taken-clause-err g c = err_on c.from_residual.result _ (λ f. Som
 pub returns-in_err-taken-clause-left : goal.returns-in_err-taken-clause-left
 returns-in_err-taken-clause-left g c = let i = c.loop.invariant in let was = i.deliveries in let less = i.within c.loop-test.true in
     err_on c.from_residual.result _ (λ f. HaveBrokenOff (λ b. (goal.Machine-dyn g (b.vtable, b.value)).meaning b.value) f c.args.workers c.args.budget (states_of (λ b. (goal.Machine-dyn g (b.vtable, b.value)).meaning b.value) c.args.cells.now) c.play_round.new.cells) c.from_residual.ensures.1
-    (record { before = states_of (λ b. (goal.Machine-dyn g (b.vtable, b.value)).meaning b.value) c.loop.cells; played = busy_played c.args.budget (states_of (λ b. (goal.Machine-dyn g (b.vtable, b.value)).meaning b.value) c.args.cells.now) (states_of (λ b. (goal.Machine-dyn g (b.vtable, b.value)).meaning b.value) c.loop.cells) i.so_far.played; less = omega (arith, was, less); broken = left_more (λ b. (goal.Machine-dyn g (b.vtable, b.value)).meaning b.value) _ IsMoved c.useful_workers-most.result c.args.workers _ c.play_round.new.cells c.useful_workers-most.ensures.most (c.in_err-taken.ensures.left i.fine) })
+    (record { before = states_of (λ b. (goal.Machine-dyn g (b.vtable, b.value)).meaning b.value) c.loop.cells; played = busy_played c.args.budget (states_of (λ b. (goal.Machine-dyn g (b.vtable, b.value)).meaning b.value) c.args.cells.now) (states_of (λ b. (goal.Machine-dyn g (b.vtable, b.value)).meaning b.value) c.loop.cells) i.so_far.played; less = omega (arith, was, less); broken = partly_of (λ b. (goal.Machine-dyn g (b.vtable, b.value)).meaning b.value) _ IsMoved sprint_limit c.args.workers c.loop.cells c.play_round.new.cells i.fine (left_more (λ b. (goal.Machine-dyn g (b.vtable, b.value)).meaning b.value) _ IsMoved c.useful_workers-most.result c.args.workers c.loop.cells c.play_round.new.cells c.useful_workers-most.ensures.most c.in_err-taken.ensures.left) })
 
 pub returns-then-all_ended-clause-parts : goal.returns-then-all_ended-clause-parts
 returns-then-all_ended-clause-parts g c = shared_none (λ b. (goal.Machine-dyn g (b.vtable, b.value)).meaning b.value) c.args.workers c.args.budget c.args.cells.now

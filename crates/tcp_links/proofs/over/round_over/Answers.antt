@@ -3,6 +3,7 @@ use Rattle.worker_laws.specs.StampCounts.{IsMoved}
 use Rattle.agent_workers.specs.Joined.{states_of}
 use Rattle.agent_workers.specs.Turns.{sprint_limit, SomeFailed}
 use Rattle.agent_workers.specs.Broken.{ArePartlyPlayed}
+use Rattle.agent_workers.proofs.BreakLaws.{partly_of}
 use Rattle.agent_workers.proofs.JoinLaws.{quiet_same}
 use Rattle.agent_workers.proofs.RoundLaws.{sound_from, begun_still}
 use Rattle.agent_workers.proofs.RunLaws.{fine_still}
@@ -49,7 +50,7 @@ pub returns-in-Err-NoMemory-clause-left : goal.returns-in-Err-NoMemory-clause-le
 returns-in-Err-NoMemory-clause-left g c = inr (record {
   ready = states_of (λ b. (goal.Machine-dyn g (b.vtable, b.value)).meaning b.value) c.exchange.new.cells;
   exchange = c.in_ok-exchange.ensures.exchanged.exchange;
-  partly = subst (λ f. ArePartlyPlayed (λ b. (goal.Machine-dyn g (b.vtable, b.value)).meaning b.value) f IsMoved sprint_limit c.args.workers (states_of (λ b. (goal.Machine-dyn g (b.vtable, b.value)).meaning b.value) c.exchange.new.cells) c.play_round.new.cells) c.in-Err-NoMemory.field-0-is (c.in-Err-NoMemory.ensures.left (fine_quiet (λ b. (goal.Machine-dyn g (b.vtable, b.value)).meaning b.value) c.args.cells.now c.exchange.new.cells c.exchange.ensures.quiet c.requires.fine));
+  partly = subst (λ f. ArePartlyPlayed (λ b. (goal.Machine-dyn g (b.vtable, b.value)).meaning b.value) f IsMoved sprint_limit c.args.workers (states_of (λ b. (goal.Machine-dyn g (b.vtable, b.value)).meaning b.value) c.exchange.new.cells) c.play_round.new.cells) c.in-Err-NoMemory.field-0-is (partly_of (λ b. (goal.Machine-dyn g (b.vtable, b.value)).meaning b.value) _ IsMoved sprint_limit c.args.workers c.exchange.new.cells c.play_round.new.cells (fine_quiet (λ b. (goal.Machine-dyn g (b.vtable, b.value)).meaning b.value) c.args.cells.now c.exchange.new.cells c.exchange.ensures.quiet c.requires.fine) c.in-Err-NoMemory.ensures.left);
 })
 
 pub returns-in_err-exchange-clause-honest : goal.returns-in_err-exchange-clause-honest
@@ -83,7 +84,7 @@ pub returns-in-Ok-clause-round : goal.returns-in-Ok-clause-round
 returns-in-Ok-clause-round g c = round_made (λ b. (goal.Machine-dyn g (b.vtable, b.value)).meaning b.value) c.args.plan.now c.exchange.new.plan c.args.cells.now c.exchange.new.cells c.play_round.new.cells c.in-Ok.taken c.in_ok-exchange.ensures.exchanged c.exchange.ensures.quiet c.in-Ok.ensures.round c.in-Ok.ensures.counted c.in-Ok.ensures.most (fine_still (λ b. (goal.Machine-dyn g (b.vtable, b.value)).meaning b.value) c.exchange.new.cells c.play_round.new.cells c.in-Ok.ensures.fine (fine_quiet (λ b. (goal.Machine-dyn g (b.vtable, b.value)).meaning b.value) c.args.cells.now c.exchange.new.cells c.exchange.ensures.quiet c.requires.fine))
 
 pub returns-in-Err-StampEnd-clause-round : goal.returns-in-Err-StampEnd-clause-round
-returns-in-Err-StampEnd-clause-round g c = broken_made (λ b. (goal.Machine-dyn g (b.vtable, b.value)).meaning b.value) c.args.workers c.args.plan.now c.exchange.new.plan _ c.args.cells.now c.exchange.new.cells c.play_round.new.cells c.in_ok-exchange.ensures.exchanged refl (subst (λ f. ArePartlyPlayed (λ b. (goal.Machine-dyn g (b.vtable, b.value)).meaning b.value) f IsMoved sprint_limit c.args.workers (states_of (λ b. (goal.Machine-dyn g (b.vtable, b.value)).meaning b.value) c.exchange.new.cells) c.play_round.new.cells) c.in-Err-StampEnd.field-0-is (c.in-Err-StampEnd.ensures.left (fine_quiet (λ b. (goal.Machine-dyn g (b.vtable, b.value)).meaning b.value) c.args.cells.now c.exchange.new.cells c.exchange.ensures.quiet c.requires.fine))) (subst (λ f. SomeFailed f c.play_round.new.cells) c.in-Err-StampEnd.field-0-is c.in-Err-StampEnd.ensures.err)
+returns-in-Err-StampEnd-clause-round g c = broken_made (λ b. (goal.Machine-dyn g (b.vtable, b.value)).meaning b.value) c.args.workers c.args.plan.now c.exchange.new.plan _ c.args.cells.now c.exchange.new.cells c.play_round.new.cells c.in_ok-exchange.ensures.exchanged refl (subst (λ f. ArePartlyPlayed (λ b. (goal.Machine-dyn g (b.vtable, b.value)).meaning b.value) f IsMoved sprint_limit c.args.workers (states_of (λ b. (goal.Machine-dyn g (b.vtable, b.value)).meaning b.value) c.exchange.new.cells) c.play_round.new.cells) c.in-Err-StampEnd.field-0-is (partly_of (λ b. (goal.Machine-dyn g (b.vtable, b.value)).meaning b.value) _ IsMoved sprint_limit c.args.workers c.exchange.new.cells c.play_round.new.cells (fine_quiet (λ b. (goal.Machine-dyn g (b.vtable, b.value)).meaning b.value) c.args.cells.now c.exchange.new.cells c.exchange.ensures.quiet c.requires.fine) c.in-Err-StampEnd.ensures.left)) (subst (λ f. SomeFailed f c.play_round.new.cells) c.in-Err-StampEnd.field-0-is c.in-Err-StampEnd.ensures.err)
 
 pub returns-in_err-exchange-clause-size : goal.returns-in_err-exchange-clause-size
 returns-in_err-exchange-clause-size g c = c.exchange.ensures.quiet.size
