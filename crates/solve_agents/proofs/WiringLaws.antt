@@ -27,6 +27,7 @@ use Rattle.wire_pump.specs.Dialer.{IsNew}
 use Rattle.tcp_links.specs.declared.fault.Difference.{Difference}
 use Rattle.tcp_links.specs.declared.fault.NodeFault.{NodeFault}
 use Rattle.tcp_links.specs.declared.fault.NodeFault.TheVariants.{Failed, Differs, NoMemory}
+use Rattle.tcp_links.specs.declared.plan.InnerEnds.{InnerEnds}
 use Rattle.tcp_links.specs.declared.plan.NodePlan.{NodePlan}
 use Rattle.tcp_links.specs.Plans.{pair_count, AreNewWires, IsBetween, AreOrdered, IsHonest, IsNewPlan}
 use Rattle.tcp_links.specs.Ends.{IsDifference, HasComeTo, IsLeftBy}
@@ -54,6 +55,7 @@ differed_in p is_phase is_phase' nodes d kind h = record {
   started = h.started;
   starts = h.starts;
   left = h.left;
+  ends = h.ends;
   last = h.last;
   right = h.right;
 }
@@ -96,8 +98,8 @@ frame_honest {W} told is_joined before after frame honest = subst (λ (ws : List
 module _ {X : Type 0} {F : X → Type 0} (M : DynBox X Global F → View) {W : Type 0} (p : Dcop) (start : Start) (fits : IsStartFor p start) (workers budget : ℕ) (before plan : NodePlan W) (nodes_are : plan.nodes ≡ before.nodes) (agents_are : plan.agents ≡ length p.sizes)
     (between : All (IsBetween (length p.sizes) plan.nodes) plan.kept.items) (fresh : All (λ (w : Wire). w.passages ≡ []) plan.kept.items)
     (ordered : AreOrdered plan.kept.items) (pairs : KeepsPairs (node_in plan) plan.kept.items (pairs_to (all_neighbours p) (length (all_neighbours p))))
-    (made last : List (Cell X F)) (are : views_of M made ≡ agents_of p start) (after : List Wire) where
-  differed : (d : Difference) → HasComeTo M workers budget plan made after last (Differs d) → HaveDiffered p (IsPhase start budget) before.nodes d
+    (made last : List (Cell X F)) (are : views_of M made ≡ agents_of p start) (after : List Wire) (ends : List InnerEnds) where
+  differed : (d : Difference) → HasComeTo M workers budget plan made after ends last (Differs d) → HaveDiffered p (IsPhase start budget) before.nodes d
   differed d h = record {
     start = start;
     fits = fits;
@@ -113,13 +115,14 @@ module _ {X : Type 0} {F : X → Type 0} (M : DynBox X Global F → View) {W : T
     started = h.started;
     starts = subst (λ (vs : List View). AreStarted vs h.started) are h.starts;
     left = after;
+    ends = ends;
     last = states_of M last;
     right =
-        subst (λ (k : ℕ). IsDifference k (home k (length p.sizes)) budget plan.kept.items h.started after (states_of M last) d) nodes_are
-        (subst (λ (n : ℕ). IsDifference plan.nodes (home plan.nodes n) budget plan.kept.items h.started after (states_of M last) d) agents_are h.fault);
+        subst (λ (k : ℕ). IsDifference k (home k (length p.sizes)) budget plan.kept.items h.started after ends (states_of M last) d) nodes_are
+        (subst (λ (n : ℕ). IsDifference plan.nodes (home plan.nodes n) budget plan.kept.items h.started after ends (states_of M last) d) agents_are h.fault);
   }
 
-  pub ran_fails : {T : Type 0} (many : 1 < before.nodes) (honest : Type 0) (old new : ℕ) (r : Result T NodeFault) → HasNodeCause old new r → (honest → IfErr r IsOtherFault) → IfErr r (IsLeftBy M workers budget plan made after last)
+  pub ran_fails : {T : Type 0} (many : 1 < before.nodes) (honest : Type 0) (old new : ℕ) (r : Result T NodeFault) → HasNodeCause old new r → (honest → IfErr r IsOtherFault) → IfErr r (IsLeftBy M workers budget plan made after ends last)
       → MayFail {T = T} p (IsPhase start budget) before.nodes (¬ honest) old new r
   ran_fails many honest old new (Ok value) cause none left = cause
   ran_fails many honest old new (Err Failed) cause none left = (many, cause.0, cause.1)

@@ -11,6 +11,7 @@ use Rattle.worker_laws.specs.Wires.{Wire}
 use Rattle.agent_links.specs.Links.{pairs_to}
 use Rattle.agent_links.specs.Seats.{all_neighbours}
 use Rattle.tcp_links.specs.declared.fault.Difference.{Difference}
+use Rattle.tcp_links.specs.declared.plan.InnerEnds.{InnerEnds}
 use Rattle.tcp_links.specs.Plans.{IsBetween, AreOrdered}
 use Rattle.tcp_links.specs.Ends.{IsDifference}
 use Rattle.node_seats.specs.Links.{KeepsPairs}
@@ -32,5 +33,6 @@ pub record HaveDiffered (p : Dcop) (is_phase : Start → ℕ → Type 0) (nodes 
   pub started : List CellState
   pub starts : AreStarted (agents_of p start) started
   pub left : List Wire
+  pub ends : List InnerEnds
   pub last : List CellState
-  pub right : IsDifference nodes (home nodes (length p.sizes)) budget links started left last d
+  pub right : IsDifference nodes (home nodes (length p.sizes)) budget links started left ends last d

@@ -48,7 +48,7 @@ module _ (file : TextFile) (task : FileTask) (nodes : ℕ) (untrusted : Type 0) 
       let count : length (problem_solved file).sizes ≡ length file.names = solved-sizes file.goal file.problem ∙ sym named in
       let h = fails.3 in
       subst (λ (k : ℕ). IsFaultNamed k (Differs d)) count
-      (difference_named (length (problem_solved file).sizes) nodes (home nodes (length (problem_solved file).sizes)) h.budget h.links h.started h.left h.last d h.between h.right)
+      (difference_named (length (problem_solved file).sizes) nodes (home nodes (length (problem_solved file).sizes)) h.budget h.links h.started h.left h.ends h.last d h.between h.right)
   fault_named no_memory named fails = tt
 
   -- it is an answer about the links

@@ -9,6 +9,7 @@ use Rattle.worker_laws.specs.NodeRounds.{AreNodeRounds}
 use Rattle.tcp_links.specs.declared.fault.Difference.{Difference}
 use Rattle.tcp_links.specs.declared.fault.Difference.TheVariants.{Message, Bytes}
 use Rattle.tcp_links.specs.declared.fault.NodeFault.TheVariants.{Differs}
+use Rattle.tcp_links.specs.declared.plan.InnerEnds.{InnerEnds}
 use Rattle.tcp_links.specs.Plans.{IsBetween}
 use Rattle.tcp_links.specs.Ends.{AreThere, IsDifference}
 use Rattle.solve_answers.specs.Nodes.{IsFaultNamed}
@@ -50,11 +51,11 @@ all_at : (P : Wire → Type 0) (ws : List Wire) (i : ℕ) (w : Wire) → All P w
 all_at P ws i w all is = subst P (get_or_from_slice_get ws i w w is) (all i w (slice_get_within ws i w is))
 
 -- a difference that agents reach over links between them reports two of these agents
-pub difference_named : (agents nodes : ℕ) (node : ℕ → ℕ) (budget : ℕ) (begun : List Wire) (started : List CellState) (left : List Wire) (last : List CellState) (d : Difference) → All (IsBetween agents nodes) begun → IsDifference nodes node budget begun started left last d
+pub difference_named : (agents nodes : ℕ) (node : ℕ → ℕ) (budget : ℕ) (begun : List Wire) (started : List CellState) (left : List Wire) (ends : List InnerEnds) (last : List CellState) (d : Difference) → All (IsBetween agents nodes) begun → IsDifference nodes node budget begun started left ends last d
     → IsFaultNamed agents (Differs d)
-difference_named agents nodes node budget begun started left last (Message from to at sent taken) all is =
+difference_named agents nodes node budget begun started left ends last (Message from to at sent taken) all is =
     let before = inside_there agents node budget begun started is.wires is.now is.count is.there (inside_between agents nodes begun all) in
     let behind = inside_passed agents is.wires is.passed is.end.exchange.passed before in
     let own = all_at (IsInside agents) is.passed is.differs.link is.differs.first.wire behind is.differs.first.is in
     (subst (λ (k : ℕ). k < agents) (sym is.differs.from_is) own.0, subst (λ (k : ℕ). k < agents) (sym is.differs.to_is) own.1)
-difference_named agents nodes node budget begun started left last (Bytes round from_node to_node place sent taken) all is = tt
+difference_named agents nodes node budget begun started left ends last (Bytes round from_node to_node place sent taken) all is = tt

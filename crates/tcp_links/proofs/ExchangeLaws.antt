@@ -41,8 +41,7 @@ use Rattle.tcp_links.specs.declared.plan.NodePlan.{NodePlan}
 use Rattle.tcp_links.specs.Plans.{AreOrdered, IsBetween, pair_count, IsPlan}
 use Rattle.tcp_links.specs.Drains.{HasDrained}
 use Rattle.tcp_links.specs.Feeds.{AllWaits}
-use Rattle.tcp_links.specs.Kept.{IsLinkKept, IsNoted, AreNoted, IsToNote, AreToNote}
-use Rattle.tcp_links.proofs.NotedLaws.{kept_noted}
+use Rattle.tcp_links.specs.Kept.{IsLinkKept, IsToNote, AreToNote, AreLinksKept}
 use Rattle.tcp_links.specs.Faults.{node_fault, IsOtherFault}
 use Rattle.tcp_links.specs.Woven.{IsPassingOf, IsLinkIdle, AreLinksIdle, AreLinksOf, AreEmptied, IsWoven, AreWoven, CanDrainAll, CanFeed, CanFeedAll, AreStill, SentWasDrained, FedWasTaken, SentIsDrained, FedIsTaken, HaveCaughtUp, HasDrainedLink, HaveDrained, HasFedLink, HaveFed}
 use Rattle.tcp_links.specs.Broken.{IsPartExchange, IsLostExchange}
@@ -129,15 +128,15 @@ emptied_slices ws ks ps qs rs k q h = subst (λ (us : List Wire). AreEmptied (le
 
 module _ {X : Type 0} {F : X → Type 0} (M : DynBox X Global F → View) where
   -- woven links have noted all
-  pub woven_noted : (nodes agents : ℕ) (ws : List Wire) (es : List InnerEnds) (cells : List (Cell X F)) → AreWoven M nodes agents ws es cells → AreNoted ws es
-  woven_noted nodes agents ws es cells woven = each_from IsNoted ws es woven.ends (λ k w e at_w at_e.
+  pub woven_kept : (nodes agents : ℕ) (ws : List Wire) (es : List InnerEnds) (cells : List (Cell X F)) → AreWoven M nodes agents ws es cells → AreLinksKept ws es
+  woven_kept nodes agents ws es cells woven = each_from IsLinkKept ws es woven.ends (λ k w e at_w at_e.
       let between = all_at (IsBetween agents nodes) ws woven.between k w at_w in
       let sender = between.sender in
       let receiver = between.receiver in
       let size = woven.size in
       let from = there cells w.sender (omega (arith, sender, size)) in
       let to = there cells w.receiver (omega (arith, receiver, size)) in
-      kept_noted w e (woven.woven k w e from.0 to.0 at_w at_e from.1 to.1).kept)
+      (woven.woven k w e from.0 to.0 at_w at_e from.1 to.1).kept)
 
   -- woven links can be drained
   pub can_drain : (nodes agents : ℕ) (ws : List Wire) (es : List InnerEnds) (cells : List (Cell X F)) → AreWoven M nodes agents ws es cells → EachIs (λ c. IsCell M c) cells → CanDrainAll M ws es cells

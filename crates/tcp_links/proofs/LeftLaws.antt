@@ -16,6 +16,7 @@ use Rattle.tcp_links.specs.declared.plan.InnerEnds.{InnerEnds}
 use Rattle.tcp_links.specs.declared.plan.NodePlan.{NodePlan}
 use Rattle.tcp_links.specs.Left.{IsTakenOut, AreSameEnds, KeepsPlan}
 use Rattle.fifo_links.specs.Link.{taken_from, sent_on}
+use Rattle.tcp_links.specs.Kept.{HasSameFeed}
 use Rattle.tcp_links.proofs.DrainLaws.{head_none, head_then, prefix_none, prefix_then}
 use Rattle.tcp_links.proofs.FeedLaws.{tail_none, tail_then}
 
@@ -73,6 +74,16 @@ module _ {W : Type 0} where
 
   pub keeps_then : (p q r : NodePlan W) → KeepsPlan p q → KeepsPlan q r → KeepsPlan p r
   keeps_then p q r a b = record { agents = b.agents ∙ a.agents; nodes = b.nodes ∙ a.nodes; ends = all_ends_then p.ends.items q.ends.items r.ends.items a.ends b.ends }
+
+-- nothing was fed to any end
+abbrev SameFeed : InnerEnds → InnerEnds → Type 0
+SameFeed a b = HasSameFeed a b
+
+pub all_feeds_none : (es : List InnerEnds) → EachAre (λ a b. HasSameFeed a b) es es
+all_feeds_none es = each_none SameFeed (λ e. refl) (λ a b c r s. s ∙ r) es
+
+pub all_feeds_set : (ds es : List InnerEnds) (k : ℕ) (d e : InnerEnds) → EachAre (λ a b. HasSameFeed a b) ds es → k < length es → HasSameFeed (get_or es k d) e → EachAre (λ a b. HasSameFeed a b) ds (set es k e)
+all_feeds_set ds es k d e h lt one = each_set SameFeed (λ x. refl) (λ a b c r s. s ∙ r) ds es k d e h lt one
 
 -- as many links are left
 pub taken_long : (d : Difference) (ws vs : List Wire) → IsTakenOut d ws vs → length vs ≡ length ws

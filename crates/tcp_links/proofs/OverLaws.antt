@@ -339,7 +339,7 @@ module _ {X : Type 0} {F : X → Type 0} (M : DynBox X Global F → View) where
         other = subst (λ (n : ℕ). IsByteBetween n passings from_node to_node place sent taken) o.nodes between;
       }
 
-      pub exchange_over : (e : NodeFault) → IsExchangeFault M round q cells r.kept.items last e → IsFaultOver M p.nodes (home p.nodes p.agents) workers budget begun started r.kept.items last e
+      pub exchange_over : (e : NodeFault) → IsExchangeFault M round q cells r.kept.items last e → IsFaultOver M p.nodes (home p.nodes p.agents) workers budget begun started r.kept.items r.ends.items last e
       exchange_over Failed f = (round, behind_lost f)
       exchange_over (Differs (Message from to at_place sent taken)) f = absurd f.0.fault
       exchange_over (Differs (Bytes behind from_node to_node place sent taken)) f =
@@ -357,7 +357,7 @@ module _ {X : Type 0} {F : X → Type 0} (M : DynBox X Global F → View) where
 
       module _ (n : ℕ) (is : n ≡ total (states_of M now)) (less : n < budget) where
         -- a round, or the exchange before it, that came to a fault
-        pub fault_over : (most workers : ℕ) → most ≤ workers → (r : NodePlan W) (next : List (Cell X F)) (e : NodeFault) → IsRoundFault M most count q now r.kept.items next e → IsFaultOver M p.nodes node workers budget begun started r.kept.items next e
+        pub fault_over : (most workers : ℕ) → most ≤ workers → (r : NodePlan W) (next : List (Cell X F)) (e : NodeFault) → IsRoundFault M most count q now r.kept.items next e → IsFaultOver M p.nodes node workers budget begun started r.kept.items r.ends.items next e
         fault_over most workers few r next Failed f = exchange_over workers budget count begun started p q r now next o (inl (busy_over, played.counted)) Failed f
         fault_over most workers few r next (Differs d) f = exchange_over workers budget count begun started p q r now next o (inl (busy_over, played.counted)) (Differs d) f
         fault_over most workers few r next NoMemory (inl f) = exchange_over workers budget count begun started p q r now next o (inl (busy_over, played.counted)) NoMemory f

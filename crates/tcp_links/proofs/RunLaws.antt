@@ -35,8 +35,9 @@ use Rattle.agent_workers.proofs.ListLaws.{map_back, each_are}
 use Rattle.agent_workers.proofs.JoinLaws.{joined_still}
 use Rattle.agent_workers.proofs.SettleLaws.{settling}
 use Rattle.agent_workers.proofs.RunLaws.{none_taken}
-use Rattle.tcp_links.specs.Kept.{AreNoted}
-use Rattle.tcp_links.proofs.ExchangeLaws.{woven_noted}
+use Rattle.tcp_links.specs.Kept.{AreFedNoted}
+use Rattle.tcp_links.proofs.ExchangeLaws.{woven_kept}
+use Rattle.tcp_links.proofs.NotedLaws.{all_kept_fed}
 use Rattle.tcp_links.specs.declared.fault.Difference.{Difference}
 use Rattle.tcp_links.specs.declared.fault.Difference.TheVariants.{Message, Bytes}
 use Rattle.tcp_links.specs.declared.fault.NodeFault.{NodeFault}
@@ -213,8 +214,8 @@ module _ {X : Type 0} {F : X → Type 0} (M : DynBox X Global F → View) where
     }
 
     -- links on which nothing has passed have noted all
-    pub linked_noted : (p : NodePlan W) (cells : List (Cell X F)) → IsPlan p → AreLinkedOver M p cells → AreCellsJoined M p.nodes cells → AreNoted p.kept.items p.ends.items
-    linked_noted p cells plan l j = woven_noted M p.nodes p.agents p.kept.items p.ends.items cells (linked p cells plan l j)
+    pub linked_fed : (p : NodePlan W) (cells : List (Cell X F)) → IsPlan p → AreLinkedOver M p cells → AreCellsJoined M p.nodes cells → AreFedNoted p.kept.items p.ends.items
+    linked_fed p cells plan l j = all_kept_fed p.kept.items p.ends.items (woven_kept M p.nodes p.agents p.kept.items p.ends.items cells (linked p cells plan l j))
 
     node_as : (P : (ℕ → ℕ) → Type 0) (p q : NodePlan W) → q.agents ≡ p.agents → q.nodes ≡ p.nodes → P (home q.nodes q.agents) → P (home p.nodes p.agents)
     node_as P p q agents nodes h = subst (λ (n : ℕ). P (home n p.agents)) nodes (subst (λ (n : ℕ). P (home q.nodes n)) agents h)
@@ -254,20 +255,20 @@ module _ {X : Type 0} {F : X → Type 0} (M : DynBox X Global F → View) where
       held = h.held;
     }
 
-    come_as : (workers budget : ℕ) (p q : NodePlan W) (left : List Wire) (made last : List (Cell X F)) (e : NodeFault) → q.agents ≡ p.agents → q.nodes ≡ p.nodes → q.kept.items ≡ p.kept.items → HasComeTo M workers budget q made left last e → HasComeTo M workers budget p made left last e
-    come_as workers budget p q left made last e agents nodes kept h = record {
+    come_as : (workers budget : ℕ) (p q : NodePlan W) (left : List Wire) (ends : List InnerEnds) (made last : List (Cell X F)) (e : NodeFault) → q.agents ≡ p.agents → q.nodes ≡ p.nodes → q.kept.items ≡ p.kept.items → HasComeTo M workers budget q made left ends last e → HasComeTo M workers budget p made left ends last e
+    come_as workers budget p q left ends made last e agents nodes kept h = record {
       started = h.started;
       starts = h.starts;
-      fault = subst (λ (n : ℕ). IsFaultOver M n (home p.nodes p.agents) workers budget p.kept.items h.started left last e) nodes
-          (subst (λ (ws : List Wire). IsFaultOver M q.nodes (home p.nodes p.agents) workers budget ws h.started left last e) kept
-          (node_as (λ node. IsFaultOver M q.nodes node workers budget q.kept.items h.started left last e) p q agents nodes h.fault));
+      fault = subst (λ (n : ℕ). IsFaultOver M n (home p.nodes p.agents) workers budget p.kept.items h.started left ends last e) nodes
+          (subst (λ (ws : List Wire). IsFaultOver M q.nodes (home p.nodes p.agents) workers budget ws h.started left ends last e) kept
+          (node_as (λ node. IsFaultOver M q.nodes node workers budget q.kept.items h.started left ends last e) p q agents nodes h.fault));
     }
 
-    pub left_as : (workers budget : ℕ) (p q : NodePlan W) (left : List Wire) (made last : List (Cell X F)) (e : NodeFault) → q.agents ≡ p.agents → q.nodes ≡ p.nodes → q.kept.items ≡ p.kept.items → IsLeftBy M workers budget q made left last e → IsLeftBy M workers budget p made left last e
-    left_as workers budget p q left made last Failed agents nodes kept h = come_as workers budget p q left made last Failed agents nodes kept h
-    left_as workers budget p q left made last (Differs d) agents nodes kept h = come_as workers budget p q left made last (Differs d) agents nodes kept h
-    left_as workers budget p q left made last NoMemory agents nodes kept (inl n) = inl (record { none = n.none ∙ kept; cells = n.cells })
-    left_as workers budget p q left made last NoMemory agents nodes kept (inr h) = inr (come_as workers budget p q left made last NoMemory agents nodes kept h)
+    pub left_as : (workers budget : ℕ) (p q : NodePlan W) (left : List Wire) (ends : List InnerEnds) (made last : List (Cell X F)) (e : NodeFault) → q.agents ≡ p.agents → q.nodes ≡ p.nodes → q.kept.items ≡ p.kept.items → q.ends.items ≡ p.ends.items → IsLeftBy M workers budget q made left ends last e → IsLeftBy M workers budget p made left ends last e
+    left_as workers budget p q left ends made last Failed agents nodes kept same h = come_as workers budget p q left ends made last Failed agents nodes kept h
+    left_as workers budget p q left ends made last (Differs d) agents nodes kept same h = come_as workers budget p q left ends made last (Differs d) agents nodes kept h
+    left_as workers budget p q left ends made last NoMemory agents nodes kept same (inl n) = inl (record { none = n.none ∙ kept; same = n.same ∙ same; cells = n.cells })
+    left_as workers budget p q left ends made last NoMemory agents nodes kept same (inr h) = inr (come_as workers budget p q left ends made last NoMemory agents nodes kept h)
 
     -- and their links, on which nothing has passed, have held
     pub held_start : (p : NodePlan W) (cells : List (Cell X F)) → IsPlan p → AreLinkedOver M p cells → HaveHeld p.kept.items
@@ -304,11 +305,11 @@ module _ {X : Type 0} {F : X → Type 0} (M : DynBox X Global F → View) where
     new_over p q r s now ready o x n = record { plan = n.plan; agents_are = n.agents_are ∙ x.agents ∙ o.agents; nodes_are = n.nodes_are ∙ x.nodes ∙ o.nodes; no_link = n.no_link }
 
     -- a fault that came once all agents had started
-    pub left_come : (workers budget : ℕ) (p : NodePlan W) (left : List Wire) (made last : List (Cell X F)) (started : List CellState) (e : NodeFault) → AreStarted (views_of M made) started
-        → IsFaultOver M p.nodes (home p.nodes p.agents) workers budget p.kept.items started left last e → IsLeftBy M workers budget p made left last e
-    left_come workers budget p left made last started Failed starts f = record { started = started; starts = starts; fault = f }
-    left_come workers budget p left made last started (Differs d) starts f = record { started = started; starts = starts; fault = f }
-    left_come workers budget p left made last started NoMemory starts f = inr (record { started = started; starts = starts; fault = f })
+    pub left_come : (workers budget : ℕ) (p : NodePlan W) (left : List Wire) (ends : List InnerEnds) (made last : List (Cell X F)) (started : List CellState) (e : NodeFault) → AreStarted (views_of M made) started
+        → IsFaultOver M p.nodes (home p.nodes p.agents) workers budget p.kept.items started left ends last e → IsLeftBy M workers budget p made left ends last e
+    left_come workers budget p left ends made last started Failed starts f = record { started = started; starts = starts; fault = f }
+    left_come workers budget p left ends made last started (Differs d) starts f = record { started = started; starts = starts; fault = f }
+    left_come workers budget p left ends made last started NoMemory starts f = inr (record { started = started; starts = starts; fault = f })
 
     -- what came of playing cells that have started
     module _ (budget rounds : ℕ) (made : List View) (started : List CellState) (p q : NodePlan W) (now : List (Cell X F)) (end : Option RunEnd) (starts : AreStarted made started) (o : IsPlanOver M p q now)
@@ -320,7 +321,7 @@ module _ {X : Type 0} {F : X → Type 0} (M : DynBox X Global F → View) where
       played_there = there_to node budget p.kept.items started q.kept.items now rounds end played
 
       -- a fault that the last exchange came to
-      pub fault_last : (workers : ℕ) (r : NodePlan W) (last : List (Cell X F)) (e : NodeFault) → IsExchangeFault M rounds q now r.kept.items last e → IsFaultOver M p.nodes node workers budget p.kept.items started r.kept.items last e
+      pub fault_last : (workers : ℕ) (r : NodePlan W) (last : List (Cell X F)) (e : NodeFault) → IsExchangeFault M rounds q now r.kept.items last e → IsFaultOver M p.nodes node workers budget p.kept.items started r.kept.items r.ends.items last e
       fault_last workers r last e f = exchange_over M workers budget rounds p.kept.items started p q r now last o played_there e f
 
       module _ (r : NodePlan W) (ready settled : List (Cell X F)) (x : HasExchanged M q now r ready) (s : HaveSettled M (home r.nodes (length ready)) (length ready) ready settled) where
@@ -331,10 +332,10 @@ module _ {X : Type 0} {F : X → Type 0} (M : DynBox X Global F → View) where
         last_end = end_made p q r now ready settled o x s
 
         -- a difference between what was sent and what was taken
-        pub differs_kept : (workers : ℕ) (d : Difference) (left : List Wire) → IsKeptDifference r.kept.items d → IsTakenOut d r.kept.items left → IsFaultOver M p.nodes node workers budget p.kept.items started left settled (Differs d)
+        pub differs_kept : (workers : ℕ) (d : Difference) (left : List Wire) → IsKeptDifference r.kept.items d → IsTakenOut d r.kept.items left → IsFaultOver M p.nodes node workers budget p.kept.items started left r.ends.items settled (Differs d)
         differs_kept workers (Bytes round from_node to_node place sent taken) left differs out = absurd differs
         differs_kept workers (Message from to at sent taken) left differs out =
-            record { count = rounds; wires = q.kept.items; now = states_of M now; there = played_there; passed = r.kept.items; end = last_end; differs = differs; renewed = out.1 }
+            record { count = rounds; wires = q.kept.items; now = states_of M now; there = played_there; passed = r.kept.items; end = last_end; noted = woven_kept M r.nodes r.agents r.kept.items r.ends.items ready x.over.woven; differs = differs; renewed = out.1 }
 
         module _ (held : HaveHeld r.kept.items) where
           pub no_break : end ≡ None → ⊥

@@ -24,10 +24,12 @@ use Rattle.tcp_links.specs.declared.fault.Difference.{Difference}
 use Rattle.tcp_links.specs.declared.fault.Difference.TheVariants.{Message, Bytes}
 use Rattle.tcp_links.specs.declared.fault.NodeFault.{NodeFault}
 use Rattle.tcp_links.specs.declared.fault.NodeFault.TheVariants.{Failed, Differs, NoMemory}
+use Rattle.tcp_links.specs.declared.plan.InnerEnds.{InnerEnds}
 use Rattle.tcp_links.specs.declared.plan.NodePlan.{NodePlan}
 use Rattle.node_exchange.specs.Faults.{IsByteBetween}
 use Rattle.node_exchange.specs.Passings.{Passing}
 use Rattle.tcp_links.specs.Broken.{IsPartExchange, IsLostExchange}
+use Rattle.tcp_links.specs.Kept.{AreLinksKept}
 use Rattle.tcp_links.specs.Over.{IsDrainedOf}
 
 -- from the start on, cells were played in `count` rounds, the last of which may have been broken
@@ -54,21 +56,23 @@ pub record HasOtherByte (nodes : ℕ) (node : ℕ → ℕ) (budget : ℕ) (begun
   pub other : IsByteBetween nodes passings from_node to_node place sent taken
 
 -- after the rounds, one exchange more and a last settling, these are the first two envelopes that
--- differ, on the lowest link that differs; this link has become a new one
-pub record HasOtherMessage (node : ℕ → ℕ) (budget : ℕ) (begun : List Wire) (started : List CellState) (left : List Wire) (last : List CellState) (from to at : ℕ) (sent taken : Option (ℕ × Sent)) : Type 0 where
+-- differ, on the lowest link that differs; each link had noted all that went through its inner
+-- ends, and then this one has become a new one
+pub record HasOtherMessage (node : ℕ → ℕ) (budget : ℕ) (begun : List Wire) (started : List CellState) (left : List Wire) (ends : List InnerEnds) (last : List CellState) (from to at : ℕ) (sent taken : Option (ℕ × Sent)) : Type 0 where
   pub count : ℕ
   pub wires : List Wire
   pub now : List CellState
   pub there : AreThere node budget begun started wires now count
   pub passed : List Wire
   pub end : IsNodeEnd node wires passed now last
+  pub noted : AreLinksKept passed ends
   pub differs : DifferKept passed from to at sent taken
   pub renewed : IsRenewed passed from to left
 
 -- a difference is one between two envelopes or one between two bytes
-abbrev pub IsDifference : ℕ → (ℕ → ℕ) → ℕ → List Wire → List CellState → List Wire → List CellState → Difference → Type 0
-IsDifference nodes node budget begun started left last (Message from to at sent taken) = HasOtherMessage node budget begun started left last from to at sent taken
-IsDifference nodes node budget begun started left last (Bytes round from_node to_node place sent taken) = HasOtherByte nodes node budget begun started left last round from_node to_node place sent taken
+abbrev pub IsDifference : ℕ → (ℕ → ℕ) → ℕ → List Wire → List CellState → List Wire → List InnerEnds → List CellState → Difference → Type 0
+IsDifference nodes node budget begun started left ends last (Message from to at sent taken) = HasOtherMessage node budget begun started left ends last from to at sent taken
+IsDifference nodes node budget begun started left ends last (Bytes round from_node to_node place sent taken) = HasOtherByte nodes node budget begun started left last round from_node to_node place sent taken
 
 -- after some rounds, an exchange was broken off
 pub record HasPartExchange (node : ℕ → ℕ) (budget : ℕ) (begun : List Wire) (started : List CellState) (left : List Wire) (last : List CellState) : Type 0 where
@@ -90,11 +94,12 @@ module _ {X : Type 0} {F : X → Type 0} where
     pub exchange : IsExchange node wires left now ready
     pub partly : ArePartlyPlayed meaning no_visit_memory IsMoved sprint_limit workers ready last
 
-  -- how far cells that had started had come when they met this fault, with the links left so
-  abbrev pub IsFaultOver : (DynBox X Global F → View) → ℕ → (ℕ → ℕ) → ℕ → ℕ → List Wire → List CellState → List Wire → List (Cell X F) → NodeFault → Type 0
-  IsFaultOver meaning nodes node workers budget begun started left last Failed = (round : ℕ) × HasLostOver node budget begun started round left (states_of meaning last)
-  IsFaultOver meaning nodes node workers budget begun started left last (Differs d) = IsDifference nodes node budget begun started left (states_of meaning last) d
-  IsFaultOver meaning nodes node workers budget begun started left last NoMemory = HasPartExchange node budget begun started left (states_of meaning last) ⊎ HavePlayedPartly meaning node workers budget begun started left last
+  -- how far cells that had started had come when they met this fault, with the links and their
+  -- inner ends left so
+  abbrev pub IsFaultOver : (DynBox X Global F → View) → ℕ → (ℕ → ℕ) → ℕ → ℕ → List Wire → List CellState → List Wire → List InnerEnds → List (Cell X F) → NodeFault → Type 0
+  IsFaultOver meaning nodes node workers budget begun started left ends last Failed = (round : ℕ) × HasLostOver node budget begun started round left (states_of meaning last)
+  IsFaultOver meaning nodes node workers budget begun started left ends last (Differs d) = IsDifference nodes node budget begun started left ends (states_of meaning last) d
+  IsFaultOver meaning nodes node workers budget begun started left ends last NoMemory = HasPartExchange node budget begun started left (states_of meaning last) ⊎ HavePlayedPartly meaning node workers budget begun started left last
 
 module _ {W : Type 0} where
   -- agents that were made in this way have started, their cells were played in rounds over the
@@ -113,18 +118,20 @@ module _ {W : Type 0} where
 module _ {X : Type 0} {F : X → Type 0} {W : Type 0} where
   -- the agents of these cells have started, and their run over the links of the plan has come to
   -- this fault
-  pub record HasComeTo (meaning : DynBox X Global F → View) (workers budget : ℕ) (p : NodePlan W) (made : List (Cell X F)) (left : List Wire) (last : List (Cell X F)) (e : NodeFault) : Type 0 where
+  pub record HasComeTo (meaning : DynBox X Global F → View) (workers budget : ℕ) (p : NodePlan W) (made : List (Cell X F)) (left : List Wire) (ends : List InnerEnds) (last : List (Cell X F)) (e : NodeFault) : Type 0 where
     pub started : List CellState
     pub starts : AreStarted (views_of meaning made) started
-    pub fault : IsFaultOver meaning p.nodes (home p.nodes p.agents) workers budget p.kept.items started left last e
+    pub fault : IsFaultOver meaning p.nodes (home p.nodes p.agents) workers budget p.kept.items started left ends last e
 
-  -- memory ran out before all agents had started, and no link has passed anything
-  pub record HasNotStarted (meaning : DynBox X Global F → View) (p : NodePlan W) (made : List (Cell X F)) (left : List Wire) (last : List (Cell X F)) : Type 0 where
+  -- memory ran out before all agents had started; no link has passed anything, and its inner ends
+  -- are as they were
+  pub record HasNotStarted (meaning : DynBox X Global F → View) (p : NodePlan W) (made : List (Cell X F)) (left : List Wire) (ends : List InnerEnds) (last : List (Cell X F)) : Type 0 where
     pub none : left ≡ p.kept.items
+    pub same : ends ≡ p.ends.items
     pub cells : (last ≡ made) ⊎ HaveStartedPartly meaning made last
 
-  -- what a fault leaves of cells and of the links of a plan
-  abbrev pub IsLeftBy : (DynBox X Global F → View) → ℕ → ℕ → NodePlan W → List (Cell X F) → List Wire → List (Cell X F) → NodeFault → Type 0
-  IsLeftBy meaning workers budget p made left last Failed = HasComeTo meaning workers budget p made left last Failed
-  IsLeftBy meaning workers budget p made left last (Differs d) = HasComeTo meaning workers budget p made left last (Differs d)
-  IsLeftBy meaning workers budget p made left last NoMemory = HasNotStarted meaning p made left last ⊎ HasComeTo meaning workers budget p made left last NoMemory
+  -- what a fault leaves of cells, of the links of a plan and of their inner ends
+  abbrev pub IsLeftBy : (DynBox X Global F → View) → ℕ → ℕ → NodePlan W → List (Cell X F) → List Wire → List InnerEnds → List (Cell X F) → NodeFault → Type 0
+  IsLeftBy meaning workers budget p made left ends last Failed = HasComeTo meaning workers budget p made left ends last Failed
+  IsLeftBy meaning workers budget p made left ends last (Differs d) = HasComeTo meaning workers budget p made left ends last (Differs d)
+  IsLeftBy meaning workers budget p made left ends last NoMemory = HasNotStarted meaning p made left ends last ⊎ HasComeTo meaning workers budget p made left ends last NoMemory

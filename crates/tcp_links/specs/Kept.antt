@@ -1,5 +1,5 @@
 -- What a link has passed, by its inner ends.
-use Rattle.std.specs.Prelude.{◌≡◌, ℕ, ◌⊎◌, List, Some, ◌++◌, slice_get}
+use Rattle.std.specs.Prelude.{◌≡◌, ◌≢◌, ℕ, ◌⊎◌, List, Some, ◌++◌, slice_get}
 use Rattle.std.specs.List.{flat_map}
 use mathlib.Core.List.{IsPrefix}
 use Rattle.fifo_links.specs.Link.{sent_on, taken_from}
@@ -15,11 +15,29 @@ pub record IsLinkKept (w : Wire) (ends : InnerEnds) : Type 0 where
   pub drained : flat_map (λ p. p.drained) w.passages ≡ taken_from ends.drain
   pub arrived : flat_map (λ p. p.arrived) w.passages ≡ sent_on ends.feed
 
+-- each link has noted all that went through its inner ends
+abbrev pub AreLinksKept : List Wire → List InnerEnds → Type 0
+AreLinksKept ws es = EachAre IsLinkKept ws es
+
 -- what a link has noted is the first part of all that was ever drained of it, and of all that was
 -- ever fed to its receiver
 pub record IsNoted (w : Wire) (ends : InnerEnds) : Type 0 where
   pub drained : IsPrefix (flat_map (λ p. p.drained) w.passages) (taken_from ends.drain)
   pub arrived : IsPrefix (flat_map (λ p. p.arrived) w.passages) (sent_on ends.feed)
+
+-- what a link has noted is the first part of all that was ever drained of it, and all that was ever
+-- fed to its receiver
+pub record IsFedNoted (w : Wire) (ends : InnerEnds) : Type 0 where
+  pub drained : IsPrefix (flat_map (λ p. p.drained) w.passages) (taken_from ends.drain)
+  pub arrived : flat_map (λ p. p.arrived) w.passages ≡ sent_on ends.feed
+
+-- each link has noted all that was fed to its receiver
+abbrev pub AreFedNoted : List Wire → List InnerEnds → Type 0
+AreFedNoted ws es = EachAre IsFedNoted ws es
+
+-- nothing was fed in between
+abbrev pub HasSameFeed : InnerEnds → InnerEnds → Type 0
+HasSameFeed before after = sent_on after.feed ≡ sent_on before.feed
 
 -- each link has noted a first part of what went through its inner ends
 abbrev pub AreNoted : List Wire → List InnerEnds → Type 0
@@ -43,3 +61,10 @@ MayKeep before p after = (after ≡ before) ⊎ (after ≡ keeps before p.draine
 abbrev pub MayKeepAll : List Wire → List Passing → List Wire → Type 0
 MayKeepAll before ps after = (k : ℕ) (v : Wire) (p : Passing) (w : Wire)
     → slice_get before k ≡ Some v → slice_get ps k ≡ Some p → slice_get after k ≡ Some w → MayKeep v p w
+
+-- each link but the one at this place has noted all that was fed to its receiver, and that one a
+-- first part of it
+pub record AreFedButOne (ws : List Wire) (es : List InnerEnds) : Type 0 where
+  pub place : ℕ
+  pub noted : AreNoted ws es
+  pub fed : (k : ℕ) (w : Wire) (e : InnerEnds) → slice_get ws k ≡ Some w → slice_get es k ≡ Some e → k ≢ place → IsFedNoted w e

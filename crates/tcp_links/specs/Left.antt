@@ -12,6 +12,7 @@ use Rattle.tcp_links.specs.declared.fault.NodeFault.{NodeFault}
 use Rattle.tcp_links.specs.declared.fault.NodeFault.TheVariants.{Failed, Differs, NoMemory}
 use Rattle.tcp_links.specs.declared.plan.InnerEnds.{InnerEnds}
 use Rattle.tcp_links.specs.declared.plan.NodePlan.{NodePlan}
+use Rattle.tcp_links.specs.Kept.{AreFedNoted, AreFedButOne}
 
 -- if two envelopes differ, they were the first two that differed on the lowest link that differed,
 -- and this link has become a new one; else no link has changed
@@ -26,6 +27,14 @@ pub record AreSameEnds (before after : InnerEnds) : Type 0 where
   pub feed : SameTail before.feed after.feed
   pub drained : IsPrefix (taken_from before.drain) (taken_from after.drain)
   pub fed : IsPrefix (sent_on before.feed) (sent_on after.feed)
+
+-- what links have noted when a run met this fault: all that was fed to the receivers, but for the
+-- link that has become a new one, or for one on which memory ran out
+abbrev pub AreNotedAfter : NodeFault → List Wire → List InnerEnds → Type 0
+AreNotedAfter Failed ws es = AreFedNoted ws es
+AreNotedAfter (Differs (Message from to at sent taken)) ws es = AreFedButOne ws es
+AreNotedAfter (Differs (Bytes round from_node to_node place sent taken)) ws es = AreFedNoted ws es
+AreNotedAfter NoMemory ws es = AreFedButOne ws es
 
 -- the plan has the same agents, nodes and inner ends as before
 pub record KeepsPlan {W : Type 0} (before after : NodePlan W) : Type 0 where

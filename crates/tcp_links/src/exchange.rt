@@ -7,8 +7,7 @@ ghost use Rattle.agent_workers.specs.Joined.{EachIs, EachBecomes, AreCellsJoined
 ghost use Rattle.agent_workers.specs.Settled.{StaysQuiet};
 ghost use Rattle.node_exchange.specs.Honest.{HaveReceivedAll};
 ghost use Rattle.node_exchange.specs.Turned.{AreTurned};
-ghost use Rattle.tcp_links.specs.Kept.{AreNoted};
-ghost use Rattle.tcp_links.specs.Left.{KeepsPlan, pairs_lost_by};
+ghost use Rattle.tcp_links.specs.Left.{KeepsPlan, pairs_lost_by, AreNotedAfter};
 ghost use Rattle.tcp_links.specs.Plans.{IsPlan, IsHonest};
 ghost use Rattle.tcp_links.specs.Faults.{HasNodeCause, IsOtherFault};
 ghost use Rattle.tcp_links.specs.Woven.{AreWoven};
@@ -51,7 +50,7 @@ where
     requires sound { EachIs (λ c. IsCell (λ b. meaning (b.vtable, b.value)) c) cells.old }
     ensures quiet { EachBecomes (λ a b. StaysQuiet (λ b. meaning (b.vtable, b.value)) a b) cells.old cells.new }
     ensures keeps { KeepsPlan plan.old plan.new }
-    ensures noted { AreNoted plan.new.kept.items plan.new.ends.items }
+    ensures noted { IfErr result (λ e. AreNotedAfter e plan.new.kept.items plan.new.ends.items) }
     ensures wires { AreTurned D.W.told D.W.is_joined (pairs_lost_by result)
         plan.old.wires.items plan.new.wires.items }
     ensures exchanged { OnOk result (HasExchanged (λ b. meaning (b.vtable, b.value)) plan.old cells.old plan.new cells.new) }

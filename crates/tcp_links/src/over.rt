@@ -9,8 +9,7 @@ ghost use Rattle.agent_cells.specs.State.{fault_in};
 ghost use Rattle.agent_workers.specs.Joined.{states_of, EachIs, EachBecomes, HasBegun, IsSameCell, AreCellsJoined};
 ghost use Rattle.node_exchange.specs.Honest.{HaveReceivedAll};
 ghost use Rattle.node_exchange.specs.Turned.{AreTurned};
-ghost use Rattle.tcp_links.specs.Kept.{AreNoted};
-ghost use Rattle.tcp_links.specs.Left.{KeepsPlan, pairs_lost_by};
+ghost use Rattle.tcp_links.specs.Left.{KeepsPlan, pairs_lost_by, AreNotedAfter};
 ghost use Rattle.tcp_links.specs.Plans.{IsHonest};
 ghost use Rattle.tcp_links.specs.Faults.{HasNodeCause, IsOtherFault};
 ghost use Rattle.tcp_links.specs.Over.{IsPlanOver, IsRoundOver, IsRoundFault, ArePlayedTo};
@@ -68,7 +67,7 @@ where
     ensures begun { EachIs (λ c. HasBegun (λ b. meaning (b.vtable, b.value)) c) cells.new }
     ensures same { EachBecomes (λ a b. IsSameCell a b) cells.old cells.new }
     ensures keeps { KeepsPlan plan.old plan.new }
-    ensures noted { AreNoted plan.new.kept.items plan.new.ends.items }
+    ensures noted { IfErr result (λ e. AreNotedAfter e plan.new.kept.items plan.new.ends.items) }
     ensures wires { AreTurned D.W.told D.W.is_joined (pairs_lost_by result)
         plan.old.wires.items plan.new.wires.items }
     ensures over { OnOk result (IsPlanOver (λ b. meaning (b.vtable, b.value)) plan.old plan.new cells.new) }
@@ -78,7 +77,7 @@ where
     ensures cause { HasNodeCause (D.faults dialer.old) (D.faults dialer.new) result }
     ensures dialer { D.is_honest dialer.old → D.is_honest dialer.new }
     ensures left { IfErr result (IsFaultOver (λ b. meaning (b.vtable, b.value)) plan.old.nodes (home plan.old.nodes plan.old.agents)
-        workers budget plan.old.kept.items (states_of (λ b. meaning (b.vtable, b.value)) cells.old) plan.new.kept.items cells.new) }
+        workers budget plan.old.kept.items (states_of (λ b. meaning (b.vtable, b.value)) cells.old) plan.new.kept.items plan.new.ends.items cells.new) }
     ensures honest { IsHonest D.W.told D.W.is_joined plan.old → HaveHeld plan.old.kept.items
         → OnOk result (IsHonest D.W.told D.W.is_joined plan.new × HaveHeld plan.new.kept.items) × IfErr result IsOtherFault }
     ensures carried { HaveReceivedAll D.W.told plan.new.wires.items → HaveHeld plan.old.kept.items
@@ -133,7 +132,7 @@ where
     ensures begun { EachIs (λ c. HasBegun (λ b. meaning (b.vtable, b.value)) c) cells.new }
     ensures same { EachBecomes (λ a b. IsSameCell a b) cells.old cells.new }
     ensures keeps { KeepsPlan plan.old plan.new }
-    ensures noted { AreNoted plan.new.kept.items plan.new.ends.items }
+    ensures noted { IfErr result (λ e. AreNotedAfter e plan.new.kept.items plan.new.ends.items) }
     ensures wires { AreTurned D.W.told D.W.is_joined (pairs_lost_by result)
         plan.old.wires.items plan.new.wires.items }
     ensures over { OnOk result (IsPlanOver (λ b. meaning (b.vtable, b.value)) plan.old plan.new cells.new) }

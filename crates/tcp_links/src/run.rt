@@ -9,8 +9,7 @@ ghost use Rattle.agent_workers.specs.Joined.{states_of, EachIs, EachBecomes, IsS
 ghost use Rattle.agent_workers.specs.Run.{views_of, AreDulyPlayed, RestsAtStill};
 ghost use Rattle.node_exchange.specs.Honest.{HaveReceivedAll};
 ghost use Rattle.node_exchange.specs.Turned.{AreTurned};
-ghost use Rattle.tcp_links.specs.Kept.{AreNoted};
-ghost use Rattle.tcp_links.specs.Left.{IsTakenOut, KeepsPlan, pairs_lost_by};
+ghost use Rattle.tcp_links.specs.Left.{IsTakenOut, KeepsPlan, pairs_lost_by, AreNotedAfter};
 ghost use Rattle.tcp_links.specs.Plans.{pair_count, IsPlan, IsHonest, IsNewPlan, IsSamePlan};
 ghost use Rattle.worker_laws.specs.OneNode.{home};
 ghost use Rattle.tcp_links.specs.Woven.{AreLinksIdle};
@@ -57,12 +56,13 @@ use wire_pump::{Dialer, Wire};
 ///
 /// After a fault the clause `left` says how far the run had come. The cells and the links of the
 /// plan are as whole rounds and exchanges left them, and then a round, an exchange or both that may
-/// have been broken off. If memory ran out before all agents had started, no link has
-/// passed anything. The clauses `same` and `sound` say what else is left of the cells, and `keeps`,
-/// `noted` and `wires` of the plan. Only the link whose [`Difference::Message`] is answered is like
-/// a new one, and what a link has noted really went through its inner ends. Only after
-/// [`NodeFault::Failed`] or [`NodeFault::NoMemory`] may a pair of wires be gone, and no more than
-/// one.
+/// have been broken off. If memory ran out before all agents had started, no link has passed
+/// anything, and the inner ends are as they were. The clauses `same` and `sound` say what else is
+/// left of the cells, and `keeps`, `noted` and `wires` of the plan. Only the link whose
+/// [`Difference::Message`] is answered is like a new one. What a link has noted really went through
+/// its inner ends, and it is all that was fed to the receiver; but after [`NodeFault::NoMemory`] one
+/// link may have noted only a first part. Only after [`NodeFault::Failed`] or
+/// [`NodeFault::NoMemory`] may a pair of wires be gone, and no more than one.
 pub fn run_nodes<R, D, G>(
     rt: &R,
     alloc: Global,
@@ -92,13 +92,13 @@ where
     ensures parts { OnOk result (HaveRunSharedOver (λ b. meaning (b.vtable, b.value)) workers plan.old.nodes cells.old.items cells.new.items) }
     ensures held { OnOk result (HasHeldOver budget (views_of (λ b. meaning (b.vtable, b.value)) cells.old.items) plan.old (states_of (λ b. meaning (b.vtable, b.value)) cells.new.items)) }
     ensures left { IfErr result (IsLeftBy (λ b. meaning (b.vtable, b.value)) workers budget
-        plan.old cells.old.items plan.new.kept.items cells.new.items) }
+        plan.old cells.old.items plan.new.kept.items plan.new.ends.items cells.new.items) }
     ensures cause { HasNodeCause (D.faults dialer.old) (D.faults dialer.new) result }
     ensures same { EachBecomes (λ a b. IsSameCell a b) cells.old.items cells.new.items }
     ensures sound { EachIs (λ c. IsCell (λ b. meaning (b.vtable, b.value)) c) cells.new.items }
     ensures plan { OnOk result (IsNewPlan plan.old.agents plan.old.nodes plan.new) }
     ensures keeps { OnErr result (KeepsPlan plan.old plan.new) }
-    ensures noted { OnErr result (AreNoted plan.new.kept.items plan.new.ends.items) }
+    ensures noted { IfErr result (λ e. AreNotedAfter e plan.new.kept.items plan.new.ends.items) }
     ensures wires { AreTurned D.W.told D.W.is_joined (pairs_lost_by result)
         plan.old.wires.items plan.new.wires.items }
     ensures dialer { D.is_honest dialer.old → D.is_honest dialer.new }
@@ -164,13 +164,13 @@ where
     ensures parts { OnOk result (HaveRunSharedOver (λ b. meaning (b.vtable, b.value)) workers plan.old.nodes cells.old cells.new) }
     ensures held { OnOk result (HasHeldOver budget (views_of (λ b. meaning (b.vtable, b.value)) cells.old) plan.old (states_of (λ b. meaning (b.vtable, b.value)) cells.new)) }
     ensures left { IfErr result (IsLeftBy (λ b. meaning (b.vtable, b.value)) workers budget
-        plan.old cells.old plan.new.kept.items cells.new) }
+        plan.old cells.old plan.new.kept.items plan.new.ends.items cells.new) }
     ensures cause { HasNodeCause (D.faults dialer.old) (D.faults dialer.new) result }
     ensures same { EachBecomes (λ a b. IsSameCell a b) cells.old cells.new }
     ensures sound { EachIs (λ c. IsCell (λ b. meaning (b.vtable, b.value)) c) cells.new }
     ensures plan { OnOk result (IsNewPlan plan.old.agents plan.old.nodes plan.new) }
     ensures keeps { OnErr result (KeepsPlan plan.old plan.new) }
-    ensures noted { OnErr result (AreNoted plan.new.kept.items plan.new.ends.items) }
+    ensures noted { IfErr result (λ e. AreNotedAfter e plan.new.kept.items plan.new.ends.items) }
     ensures wires { AreTurned D.W.told D.W.is_joined (pairs_lost_by result)
         plan.old.wires.items plan.new.wires.items }
     ensures dialer { D.is_honest dialer.old → D.is_honest dialer.new }

@@ -7,7 +7,7 @@ ghost use Rattle.agent_cells.specs.State.{state_of};
 ghost use Rattle.agent_workers.specs.Joined.{EachBecomes};
 ghost use Rattle.agent_workers.specs.Settled.{StaysQuiet};
 ghost use Rattle.node_exchange.specs.Passings.{holding, emptied};
-ghost use Rattle.tcp_links.specs.Kept.{IsNoted, AreNoted, IsToNote, AreToNote, MayKeep, MayKeepAll};
+ghost use Rattle.tcp_links.specs.Kept.{IsNoted, IsFedNoted, AreFedNoted, AreFedButOne, HasSameFeed, IsToNote, AreToNote, MayKeep, MayKeepAll};
 ghost use Rattle.tcp_links.specs.Left.{AreSameEnds};
 ghost use Rattle.tcp_links.specs.Woven.{AreLinksIdle, AreLinksOf, CanDrain, CanDrainAll, CanFeed, CanFeedAll, HasDrainedLink, HaveDrained, HasFedLink, HaveFed, AreEmptied, KnowsElse, SentIsDrained, FedIsTaken};
 
@@ -37,6 +37,7 @@ pub(crate) fn drain_all(
     requires idle { (node : ℕ → ℕ) × AreLinksIdle node kept.now passings.old }
     ensures quiet { EachBecomes (λ a b. StaysQuiet (λ b. meaning (b.vtable, b.value)) a b) cells.old cells.new }
     ensures ends { EachAre AreSameEnds ends.old ends.new }
+    ensures feeds { EachAre (λ a b. HasSameFeed a b) ends.old ends.new }
     ensures drained { OnOk result ((node : ℕ → ℕ) → AreLinksIdle node kept.now passings.old
         → HaveDrained (λ b. meaning (b.vtable, b.value)) node (length kept.now) cells.old kept.now ends.old ends.new passings.new) }
 {
@@ -71,6 +72,7 @@ fn drain_at(
     requires idle { passing.old.drained ≡ [] }
     ensures quiet { EachBecomes (λ a b. StaysQuiet (λ b. meaning (b.vtable, b.value)) a b) cells.old cells.new }
     ensures ends { AreSameEnds ends.old ends.new }
+    ensures feeds { HasSameFeed ends.old ends.new }
     ensures drained { OnOk result ((c : _) → slice_get cells.old link.now.sender ≡ Some c
         → HasDrainedLink (λ b. meaning (b.vtable, b.value)) c link.now ends.old ends.new passing.new.drained) }
     ensures passing { passing.new ≡ holding passing.old passing.new.drained }
@@ -104,7 +106,8 @@ pub(crate) fn feed_all(
     ensures quiet { EachBecomes (λ a b. StaysQuiet (λ b. meaning (b.vtable, b.value)) a b) cells.old cells.new }
     ensures ends { EachAre AreSameEnds ends.old ends.new }
     ensures kept { MayKeepAll kept.old passings.old kept.new }
-    ensures noted { AreToNote kept.old ends.old passings.old → AreNoted kept.new ends.new }
+    ensures noted { AreToNote kept.old ends.old passings.old → AreFedButOne kept.new ends.new }
+    ensures all { OnOk result (AreToNote kept.old ends.old passings.old → AreFedNoted kept.new ends.new) }
     ensures sizes { (length kept.new ≡ length kept.old) × (length ends.new ≡ length ends.old) × (length passings.new ≡ length passings.old) }
     ensures fed { OnOk result (HaveFed (λ b. meaning (b.vtable, b.value)) (length kept.old) cells.new kept.old kept.new ends.old ends.new passings.old) }
     ensures left { OnOk result (AreEmptied (length kept.old) passings.old passings.new) }
@@ -141,6 +144,7 @@ fn feed_at(
     ensures ends { AreSameEnds ends.old ends.new }
     ensures kept { MayKeep link.old passing.old link.new }
     ensures noted { IsToNote link.old ends.old passing.old → IsNoted link.new ends.new }
+    ensures all { OnOk result (IsToNote link.old ends.old passing.old → IsFedNoted link.new ends.new) }
     ensures known { KnowsElse (λ b. meaning (b.vtable, b.value)) link.old.receiver link.old.sender cells.old cells.new }
     ensures fed { OnOk result ((c : _) → slice_get cells.new link.old.receiver ≡ Some c
         → HasFedLink (λ b. meaning (b.vtable, b.value)) c link.old link.new ends.old ends.new passing.old) }

@@ -43,5 +43,5 @@ returns-in_err-end-clause-links g c =
     (rw c.in_err-end.was at (ran_fails _ c.args.problem.now c.args.start.now c.requires.start _ c.args.budget c.args.plan.now c.seats_over.new.plan c.seats_over.ensures.frame.nodes (plan_agents c.args.problem.now c.args.start.now c.args.plan.now c.seats_over.new.plan c.in_ok-seats.seats.items c.requires.plan c.seats_over.ensures.frame)
     (links_between c.args.problem.now c.args.start.now c.args.plan.now c.seats_over.new.plan c.in_ok-seats.seats.items c.requires.plan c.seats_over.ensures.frame) (links_fresh c.args.problem.now c.args.start.now c.args.plan.now c.seats_over.new.plan c.in_ok-seats.seats.items c.requires.plan c.seats_over.ensures.frame c.in_ok-seats.ensures.seats)
     c.seats_over.ensures.frame.plan.ordered c.in_ok-seats.ensures.seats.linked.keeps
-    _ _ (cells_ready _ c.args.problem.now c.args.start.now c.args.plan.now c.seats_over.new.plan c.in_ok-seats.seats.items c.in_ok-cells.cells.items c.requires.plan c.seats_over.ensures.frame c.in_ok-seats.ensures.seats c.in_ok-cells.ensures.size (λ k s x lt. c.in_ok-cells.ensures.each k s x lt)).views _ c.requires.many _ _ _ c.run_nodes.result c.run_nodes.ensures.cause
+    _ _ (cells_ready _ c.args.problem.now c.args.start.now c.args.plan.now c.seats_over.new.plan c.in_ok-seats.seats.items c.in_ok-cells.cells.items c.requires.plan c.seats_over.ensures.frame c.in_ok-seats.ensures.seats c.in_ok-cells.ensures.size (λ k s x lt. c.in_ok-cells.ensures.each k s x lt)).views _ _ c.requires.many _ _ _ c.run_nodes.result c.run_nodes.ensures.cause
     (λ h. (c.run_nodes.ensures.honest (frame_honest _ _ c.args.plan.now c.seats_over.new.plan c.seats_over.ensures.frame h)).1) c.run_nodes.ensures.left))

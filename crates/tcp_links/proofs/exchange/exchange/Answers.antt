@@ -9,17 +9,17 @@ use Rattle.node_exchange.specs.Passings.{SamePassing, AreAcross, NothingCame}
 use Rattle.node_exchange.specs.Faults.{IsByteFault}
 use Rattle.tcp_links.specs.Faults.{IsOtherFault}
 use Rattle.tcp_links.specs.Over.{IsExchangeFault}
-use Rattle.tcp_links.proofs.ExchangeLaws.{twice_written, long_written, no_difference, nothing_came, are_across, can_drain, can_feed, still_taken, fault_on, woven_on, idle_on, caught_up, exchange_on, held_on, all_drained, has_exchanged, idle_slices, emptied_slices, can_drain_slices, sent_slices, taken_slices, links_slices, links_of, sent_where_still, taken_where_still, drained_slices, can_feed_slices, fed_slices, note_slices, woven_noted, to_note}
+use Rattle.tcp_links.proofs.ExchangeLaws.{twice_written, long_written, no_difference, nothing_came, are_across, can_drain, can_feed, still_taken, fault_on, woven_on, idle_on, caught_up, exchange_on, held_on, all_drained, has_exchanged, idle_slices, emptied_slices, can_drain_slices, sent_slices, taken_slices, links_slices, links_of, sent_where_still, taken_where_still, drained_slices, can_feed_slices, fed_slices, note_slices, woven_kept, to_note}
 use Rattle.tcp_links.specs.Left.{AreSameEnds}
 use Rattle.tcp_links.proofs.LeftLaws.{all_ends_then, keeps_parts}
 use Rattle.tcp_links.proofs.PartLaws.{lost, part_none, part, keep_slices}
 use Rattle.tcp_links.proofs.OverLaws.{err_on}
 use Rattle.node_exchange.proofs.TurnLaws.{turned_none, turned_less, turned_long}
-use Rattle.tcp_links.specs.Left.{pairs_lost_by}
+use Rattle.tcp_links.specs.Left.{pairs_lost_by, AreNotedAfter}
 use Rattle.node_exchange.specs.Turned.{AreTurned}
 use Rattle.tcp_links.proofs.LostLaws.{turned_fault}
-use Rattle.tcp_links.specs.Kept.{AreNoted}
-use Rattle.tcp_links.proofs.NotedLaws.{all_noted_on, noted_as}
+use Rattle.tcp_links.specs.Kept.{AreFedNoted, AreFedButOne, HasSameFeed}
+use Rattle.tcp_links.proofs.NotedLaws.{all_fed_on, all_kept_fed, fed_but_one, fed_after, but_one_as}
 use Rattle.tcp_links.proofs.exchange.exchange.Goals as goal
 
 pub drain_all-requires-clause-can : goal.drain_all-requires-clause-can
@@ -240,14 +240,18 @@ returns-clause-wires g c = c.in_default.ensures.wires
 pub returns-in_err-drain_all-clause-noted : goal.returns-in_err-drain_all-clause-noted
 returns-in_err-drain_all-clause-noted g c =
     let same = subst (λ es. EachAre AreSameEnds es c.drain_all.new.ends) c.as_mut_slice.ensures.value c.drain_all.ensures.ends in
+    let feeds = subst (λ es. EachAre (λ a b. HasSameFeed a b) es c.drain_all.new.ends) c.as_mut_slice.ensures.value c.drain_all.ensures.feeds in
     let ends = written _ c.args.plan.now.ends.items c.drain_all.new.ends c.as_mut_slice.result.now c.args.plan.now.ends.ok.0 (sym (each_long AreSameEnds c.as_mut_slice.result.now c.drain_all.new.ends c.drain_all.ensures.ends)) c.as_mut_slice.ensures.value in
-    subst (AreNoted c.args.plan.now.kept.items) (sym ends) (all_noted_on c.args.plan.now.kept.items c.args.plan.now.ends.items c.drain_all.new.ends (woven_noted (λ b. (goal.Machine-dyn g (b.vtable, b.value)).meaning b.value) c.args.plan.now.nodes c.args.plan.now.agents c.args.plan.now.kept.items c.args.plan.now.ends.items c.args.cells.now c.requires.woven) same)
+    let fed = all_fed_on c.args.plan.now.kept.items c.args.plan.now.ends.items c.drain_all.new.ends (all_kept_fed c.args.plan.now.kept.items c.args.plan.now.ends.items (woven_kept (λ b. (goal.Machine-dyn g (b.vtable, b.value)).meaning b.value) c.args.plan.now.nodes c.args.plan.now.agents c.args.plan.now.kept.items c.args.plan.now.ends.items c.args.cells.now c.requires.woven)) same feeds in
+    err_on c.from_residual.result _ (λ e. AreNotedAfter e c.args.plan.now.kept.items _) c.from_residual.ensures.1 (subst (AreFedButOne c.args.plan.now.kept.items) (sym ends) (fed_but_one c.args.plan.now.kept.items c.drain_all.new.ends fed))
 
 pub returns-in-Err-clause-noted : goal.returns-in-Err-clause-noted
 returns-in-Err-clause-noted g c =
     let same = subst (λ es. EachAre AreSameEnds es c.drain_all.new.ends) c.as_mut_slice.ensures.value c.drain_all.ensures.ends in
+    let feeds = subst (λ es. EachAre (λ a b. HasSameFeed a b) es c.drain_all.new.ends) c.as_mut_slice.ensures.value c.drain_all.ensures.feeds in
     let ends = written _ c.args.plan.now.ends.items c.drain_all.new.ends c.as_mut_slice.result.now c.args.plan.now.ends.ok.0 (sym (each_long AreSameEnds c.as_mut_slice.result.now c.drain_all.new.ends c.drain_all.ensures.ends)) c.as_mut_slice.ensures.value in
-    subst (AreNoted c.args.plan.now.kept.items) (sym ends) (all_noted_on c.args.plan.now.kept.items c.args.plan.now.ends.items c.drain_all.new.ends (woven_noted (λ b. (goal.Machine-dyn g (b.vtable, b.value)).meaning b.value) c.args.plan.now.nodes c.args.plan.now.agents c.args.plan.now.kept.items c.args.plan.now.ends.items c.args.cells.now c.requires.woven) same)
+    let fed = all_fed_on c.args.plan.now.kept.items c.args.plan.now.ends.items c.drain_all.new.ends (all_kept_fed c.args.plan.now.kept.items c.args.plan.now.ends.items (woven_kept (λ b. (goal.Machine-dyn g (b.vtable, b.value)).meaning b.value) c.args.plan.now.nodes c.args.plan.now.agents c.args.plan.now.kept.items c.args.plan.now.ends.items c.args.cells.now c.requires.woven)) same feeds in
+    fed_after _ c.args.plan.now.kept.items _ (subst (AreFedNoted c.args.plan.now.kept.items) (sym ends) fed)
 
 pub returns-in_err-feed_all-clause-noted : goal.returns-in_err-feed_all-clause-noted
 returns-in_err-feed_all-clause-noted g c =
@@ -264,7 +268,7 @@ returns-in_err-feed_all-clause-noted g c =
     let twice = twice_written _ c.args.plan.now.ends.items c.drain_all.new.ends c.as_mut_slice.result.now c.feed_all.new.ends c.as_mut_slice-5.result.now c.args.plan.now.ends.ok.0 (drained.size ∙ ap length (sym c.as_mut_slice.ensures.value)) c.as_mut_slice.ensures.value c.feed_all.ensures.sizes.1 c.as_mut_slice-5.ensures.value in
     let told = note_slices c.args.plan.now.kept.items c.as_mut_slice-4.result.now c.drain_all.new.ends c.as_mut_slice-5.result.now c.pass_all.new.passings c.as_mut_slice-6.result.now c.as_mut_slice-4.ensures.value (c.as_mut_slice-5.ensures.value ∙ ends) passed
     (to_note (λ b. (goal.Machine-dyn g (b.vtable, b.value)).meaning b.value) c.args.plan.now.nodes c.args.plan.now.agents c.args.plan.now.kept.items c.args.plan.now.ends.items c.drain_all.new.ends c.args.cells.now c.drain_all.new.cells c.drain_all.new.passings c.requires.woven c.drain_all.ensures.quiet drained c.pass_all.new.passings same) in
-    noted_as _ c.feed_all.new.kept _ c.feed_all.new.ends kept twice (c.feed_all.ensures.noted told)
+    err_on c.from_residual-in_err-feed_all.result _ (λ e. AreNotedAfter e _ _) c.from_residual-in_err-feed_all.ensures.1 (but_one_as _ c.feed_all.new.kept _ c.feed_all.new.ends kept twice (c.feed_all.ensures.noted told))
 
 pub returns-in_err-note_all-clause-noted : goal.returns-in_err-note_all-clause-noted
 returns-in_err-note_all-clause-noted g c =
@@ -281,24 +285,7 @@ returns-in_err-note_all-clause-noted g c =
     let twice = twice_written _ c.args.plan.now.ends.items c.drain_all.new.ends c.as_mut_slice.result.now c.feed_all.new.ends c.as_mut_slice-5.result.now c.args.plan.now.ends.ok.0 (drained.size ∙ ap length (sym c.as_mut_slice.ensures.value)) c.as_mut_slice.ensures.value c.feed_all.ensures.sizes.1 c.as_mut_slice-5.ensures.value in
     let told = note_slices c.args.plan.now.kept.items c.as_mut_slice-4.result.now c.drain_all.new.ends c.as_mut_slice-5.result.now c.pass_all.new.passings c.as_mut_slice-6.result.now c.as_mut_slice-4.ensures.value (c.as_mut_slice-5.ensures.value ∙ ends) passed
     (to_note (λ b. (goal.Machine-dyn g (b.vtable, b.value)).meaning b.value) c.args.plan.now.nodes c.args.plan.now.agents c.args.plan.now.kept.items c.args.plan.now.ends.items c.drain_all.new.ends c.args.cells.now c.drain_all.new.cells c.drain_all.new.passings c.requires.woven c.drain_all.ensures.quiet drained c.pass_all.new.passings same) in
-    noted_as _ c.feed_all.new.kept _ c.feed_all.new.ends kept twice (c.feed_all.ensures.noted told)
-
-pub returns-clause-noted : goal.returns-clause-noted
-returns-clause-noted g c =
-    let idle = idle_slices (home c.args.plan.now.nodes c.args.plan.now.agents) c.args.plan.now.kept.items c.as_slice-2.result.now c.args.plan.now.passings.items c.as_mut_slice-2.result.now c.as_slice-2.ensures.value c.as_mut_slice-2.ensures.value c.requires.ready.idle in
-    let drained = drained_slices (λ b. (goal.Machine-dyn g (b.vtable, b.value)).meaning b.value) (home c.args.plan.now.nodes c.args.plan.now.agents) c.args.cells.now c.args.plan.now.kept.items c.as_slice-2.result.now c.args.plan.now.ends.items c.as_mut_slice.result.now c.drain_all.new.ends c.drain_all.new.passings c.as_slice-2.ensures.value c.as_mut_slice.ensures.value (c.in_ok-drain_all.ensures.drained (home c.args.plan.now.nodes c.args.plan.now.agents) idle) in
-    let long = drained.counted ∙ sym c.requires.ready.idle.size ∙ ap length (sym c.as_mut_slice-2.ensures.value) in
-    let here = c.as_mut_slice-3.ensures.value ∙ written _ c.args.plan.now.passings.items c.drain_all.new.passings c.as_mut_slice-2.result.now c.args.plan.now.passings.ok.0 long c.as_mut_slice-2.ensures.value in
-    let one = long_written _ c.args.plan.now.passings.items c.drain_all.new.passings c.as_mut_slice-2.result.now c.args.plan.now.passings.ok.0 long c.as_mut_slice-2.ensures.value in
-    let longer = sym (each_long SamePassing c.as_mut_slice-3.result.now c.pass_all.new.passings c.pass_all.ensures.same) in
-    let passed = c.as_mut_slice-6.ensures.value ∙ written _ _ c.pass_all.new.passings c.as_mut_slice-3.result.now one longer c.as_mut_slice-3.ensures.value in
-    let ends = written _ c.args.plan.now.ends.items c.drain_all.new.ends c.as_mut_slice.result.now c.args.plan.now.ends.ok.0 (drained.size ∙ ap length (sym c.as_mut_slice.ensures.value)) c.as_mut_slice.ensures.value in
-    let same : EachAre SamePassing c.drain_all.new.passings c.pass_all.new.passings = subst (λ ps. EachAre SamePassing ps c.pass_all.new.passings) here c.pass_all.ensures.same in
-    let kept = written _ c.args.plan.now.kept.items c.feed_all.new.kept c.as_mut_slice-4.result.now c.args.plan.now.kept.ok.0 c.feed_all.ensures.sizes.0 c.as_mut_slice-4.ensures.value in
-    let twice = twice_written _ c.args.plan.now.ends.items c.drain_all.new.ends c.as_mut_slice.result.now c.feed_all.new.ends c.as_mut_slice-5.result.now c.args.plan.now.ends.ok.0 (drained.size ∙ ap length (sym c.as_mut_slice.ensures.value)) c.as_mut_slice.ensures.value c.feed_all.ensures.sizes.1 c.as_mut_slice-5.ensures.value in
-    let told = note_slices c.args.plan.now.kept.items c.as_mut_slice-4.result.now c.drain_all.new.ends c.as_mut_slice-5.result.now c.pass_all.new.passings c.as_mut_slice-6.result.now c.as_mut_slice-4.ensures.value (c.as_mut_slice-5.ensures.value ∙ ends) passed
-    (to_note (λ b. (goal.Machine-dyn g (b.vtable, b.value)).meaning b.value) c.args.plan.now.nodes c.args.plan.now.agents c.args.plan.now.kept.items c.args.plan.now.ends.items c.drain_all.new.ends c.args.cells.now c.drain_all.new.cells c.drain_all.new.passings c.requires.woven c.drain_all.ensures.quiet drained c.pass_all.new.passings same) in
-    noted_as _ c.feed_all.new.kept _ c.feed_all.new.ends kept twice (c.feed_all.ensures.noted told)
+    err_on c.from_residual-in_err-note_all.result _ (λ e. AreNotedAfter e _ _) c.from_residual-in_err-note_all.ensures.1 (but_one_as _ c.feed_all.new.kept _ c.feed_all.new.ends kept twice (c.feed_all.ensures.noted told))
 
 pub returns-in_err-feed_all-clause-left : goal.returns-in_err-feed_all-clause-left
 returns-in_err-feed_all-clause-left g c =

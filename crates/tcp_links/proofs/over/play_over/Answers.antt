@@ -12,7 +12,7 @@ use Rattle.tcp_links.proofs.LeftLaws.{keeps_none, keeps_then, same_then}
 use Rattle.node_exchange.proofs.TurnLaws.{turned_none, turned_then}
 use Rattle.node_exchange.proofs.WholeLaws.{turned_back}
 use Rattle.tcp_links.proofs.LostLaws.{turned_on}
-use Rattle.tcp_links.proofs.ExchangeLaws.{woven_noted}
+use Rattle.tcp_links.specs.Left.{AreNotedAfter}
 use Rattle.tcp_links.proofs.over.play_over.Goals as goal
 
 pub loop-round-init : goal.loop-round-init
@@ -21,7 +21,6 @@ loop-round-init g c = record {
   size = refl;
   same = same_all (λ b. (goal.Machine-dyn g (b.vtable, b.value)).meaning b.value) c.args.cells.now;
   keeps = keeps_none c.args.plan.now;
-  noted = woven_noted (λ b. (goal.Machine-dyn g (b.vtable, b.value)).meaning b.value) c.args.plan.now.nodes c.args.plan.now.agents c.args.plan.now.kept.items c.args.plan.now.ends.items c.args.cells.now c.requires.over.woven;
   wires = turned_none g.D.W.Wire.told g.D.W.Wire.is_joined 0 c.args.plan.now.wires.items;
   joined = c.requires.joined;
   begun = c.requires.begun;
@@ -72,7 +71,7 @@ pub returns-in_err-taken-clause-dialer : goal.returns-in_err-taken-clause-dialer
 returns-in_err-taken-clause-dialer g c = λ d. c.round_over.ensures.dialer (c.loop-round.invariant.dialer d)
 
 pub returns-in_err-taken-clause-left : goal.returns-in_err-taken-clause-left
-returns-in_err-taken-clause-left g c = err_on c.from_residual.result _ (IsFaultOver (λ b. (goal.Machine-dyn g (b.vtable, b.value)).meaning b.value) c.args.plan.now.nodes (home c.args.plan.now.nodes c.args.plan.now.agents) c.args.workers c.args.budget c.args.plan.now.kept.items (states_of (λ b. (goal.Machine-dyn g (b.vtable, b.value)).meaning b.value) c.args.cells.now) c.round_over.new.plan.kept.items c.round_over.new.cells) c.from_residual.ensures.1
+returns-in_err-taken-clause-left g c = err_on c.from_residual.result _ (IsFaultOver (λ b. (goal.Machine-dyn g (b.vtable, b.value)).meaning b.value) c.args.plan.now.nodes (home c.args.plan.now.nodes c.args.plan.now.agents) c.args.workers c.args.budget c.args.plan.now.kept.items (states_of (λ b. (goal.Machine-dyn g (b.vtable, b.value)).meaning b.value) c.args.cells.now) c.round_over.new.plan.kept.items c.round_over.new.plan.ends.items c.round_over.new.cells) c.from_residual.ensures.1
     (fault_over (λ b. (goal.Machine-dyn g (b.vtable, b.value)).meaning b.value) c.args.budget c.loop-round.round c.args.plan.now.kept.items (states_of (λ b. (goal.Machine-dyn g (b.vtable, b.value)).meaning b.value) c.args.cells.now) c.args.plan.now c.loop-round.plan c.loop-round.cells c.loop-round.invariant.over c.loop-round.invariant.played c.loop-round.deliveries c.loop-round.invariant.deliveries (c.loop-round.invariant.within c.loop-round-test.true) c.useful_workers-most.result c.args.workers c.useful_workers-most.ensures.most c.round_over.new.plan c.round_over.new.cells _ c.in_err-taken.ensures.left)
 
 pub returns-in_err-taken-clause-honest : goal.returns-in_err-taken-clause-honest
@@ -171,7 +170,6 @@ loop-round-preserved g c = let i = c.loop-round.invariant in let was = i.deliver
   size = c.round_over.ensures.size ∙ c.loop-round.invariant.size;
   same = same_then (λ b. (goal.Machine-dyn g (b.vtable, b.value)).meaning b.value) c.args.cells.now c.loop-round.cells c.round_over.new.cells c.loop-round.invariant.same c.round_over.ensures.same;
   keeps = keeps_then c.args.plan.now c.loop-round.plan c.round_over.new.plan c.loop-round.invariant.keeps c.round_over.ensures.keeps;
-  noted = c.round_over.ensures.noted;
   wires = turned_then g.D.W.Wire.told g.D.W.Wire.is_joined 0 c.args.plan.now.wires.items c.loop-round.plan.wires.items c.round_over.new.plan.wires.items c.loop-round.invariant.wires c.in_ok-taken.ensures.wires;
   joined = joined_back (λ b. (goal.Machine-dyn g (b.vtable, b.value)).meaning b.value) c.args.plan.now c.loop-round.plan c.round_over.new.cells c.loop-round.invariant.over.nodes c.round_over.ensures.joined;
   begun = c.round_over.ensures.begun;
@@ -300,26 +298,8 @@ returns-then-taken-eq0-clause-wires g c = turned_then g.D.W.Wire.told g.D.W.Wire
 pub returns-clause-wires : goal.returns-clause-wires
 returns-clause-wires g c = c.loop-round.invariant.wires
 
-pub returns-then-all_ended-clause-noted : goal.returns-then-all_ended-clause-noted
-returns-then-all_ended-clause-noted g c = woven_noted (λ b. (goal.Machine-dyn g (b.vtable, b.value)).meaning b.value) c.args.plan.now.nodes c.args.plan.now.agents c.args.plan.now.kept.items c.args.plan.now.ends.items c.args.cells.now c.requires.over.woven
-
 pub returns-in_err-taken-clause-noted : goal.returns-in_err-taken-clause-noted
-returns-in_err-taken-clause-noted g c = c.round_over.ensures.noted
-
-pub returns-in_default-clause-noted : goal.returns-in_default-clause-noted
-returns-in_default-clause-noted g c = c.round_over.ensures.noted
-
-pub returns-then-all_ended-2-clause-noted : goal.returns-then-all_ended-2-clause-noted
-returns-then-all_ended-2-clause-noted g c = c.round_over.ensures.noted
-
-pub returns-then-deliveries-budget-clause-noted : goal.returns-then-deliveries-budget-clause-noted
-returns-then-deliveries-budget-clause-noted g c = c.round_over.ensures.noted
-
-pub returns-then-taken-eq0-clause-noted : goal.returns-then-taken-eq0-clause-noted
-returns-then-taken-eq0-clause-noted g c = c.round_over.ensures.noted
-
-pub returns-clause-noted : goal.returns-clause-noted
-returns-clause-noted g c = c.loop-round.invariant.noted
+returns-in_err-taken-clause-noted g c = err_on c.from_residual.result _ (λ e. AreNotedAfter e c.round_over.new.plan.kept.items c.round_over.new.plan.ends.items) c.from_residual.ensures.1 c.in_err-taken.ensures.noted
 
 pub returns-then-all_ended-clause-carried : goal.returns-then-all_ended-clause-carried
 returns-then-all_ended-clause-carried g c = λ all held. (held, tt)

@@ -8,7 +8,6 @@ use Rattle.agent_workers.specs.Joined.{states_of, EachIs, EachBecomes, HasBegun,
 use Rattle.agent_workers.specs.Run.{AreBusy}
 use Rattle.node_exchange.specs.Honest.{HaveReceivedAll}
 use Rattle.node_exchange.specs.Turned.{AreTurned}
-use Rattle.tcp_links.specs.Kept.{AreNoted}
 use Rattle.tcp_links.specs.Left.{KeepsPlan}
 use Rattle.tcp_links.specs.Plans.{IsHonest}
 use Rattle.tcp_links.specs.Over.{IsPlanOver, ArePlayedSo}
@@ -21,7 +20,6 @@ invariant-loop-round g l = record {
   size : length l.cells ≡ length l.initial.cells;
   same : EachBecomes IsSameCell l.initial.cells l.cells;
   keeps : KeepsPlan l.initial.plan l.plan;
-  noted : AreNoted l.plan.kept.items l.plan.ends.items;
   wires : AreTurned g.D.W.Wire.told g.D.W.Wire.is_joined 0 l.initial.plan.wires.items l.plan.wires.items;
   joined : AreCellsJoined (λ b. (goal.Machine-dyn g (b.vtable, b.value)).meaning b.value) l.initial.plan.nodes l.cells;
   begun : EachIs (λ c. HasBegun (λ b. (goal.Machine-dyn g (b.vtable, b.value)).meaning b.value) c) l.cells;

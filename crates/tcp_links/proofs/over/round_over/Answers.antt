@@ -14,6 +14,9 @@ use Rattle.tcp_links.proofs.SharedLaws.{shared_over}
 use Rattle.tcp_links.proofs.LeftLaws.{keeps_same, keeps_then, same_then}
 use Rattle.node_exchange.proofs.TurnLaws.{turned_less}
 use Rattle.tcp_links.proofs.LostLaws.{turned_on}
+use Rattle.tcp_links.specs.Left.{AreNotedAfter}
+use Rattle.tcp_links.proofs.NotedLaws.{all_kept_fed, fed_but_one}
+use Rattle.tcp_links.proofs.ExchangeLaws.{woven_kept}
 use Rattle.tcp_links.proofs.over.round_over.Goals as goal
 
 pub exchange-requires-clause-plan : goal.exchange-requires-clause-plan
@@ -138,16 +141,12 @@ pub returns-in-Err-NoMemory-clause-wires : goal.returns-in-Err-NoMemory-clause-w
 returns-in-Err-NoMemory-clause-wires g c = turned_less g.D.W.Wire.told g.D.W.Wire.is_joined 1 c.args.plan.now.wires.items c.exchange.new.plan.wires.items c.in_ok-exchange.ensures.wires
 
 pub returns-in_err-exchange-clause-noted : goal.returns-in_err-exchange-clause-noted
-returns-in_err-exchange-clause-noted g c = c.exchange.ensures.noted
-
-pub returns-in-Ok-clause-noted : goal.returns-in-Ok-clause-noted
-returns-in-Ok-clause-noted g c = c.exchange.ensures.noted
-
-pub returns-in-Err-StampEnd-clause-noted : goal.returns-in-Err-StampEnd-clause-noted
-returns-in-Err-StampEnd-clause-noted g c = c.exchange.ensures.noted
+returns-in_err-exchange-clause-noted g c = err_on c.from_residual.result _ (λ e. AreNotedAfter e c.exchange.new.plan.kept.items c.exchange.new.plan.ends.items) c.from_residual.ensures.1 c.in_err-exchange.ensures.noted
 
 pub returns-in-Err-NoMemory-clause-noted : goal.returns-in-Err-NoMemory-clause-noted
-returns-in-Err-NoMemory-clause-noted g c = c.exchange.ensures.noted
+returns-in-Err-NoMemory-clause-noted g c =
+    fed_but_one c.exchange.new.plan.kept.items c.exchange.new.plan.ends.items (all_kept_fed c.exchange.new.plan.kept.items c.exchange.new.plan.ends.items
+    (woven_kept (λ b. (goal.Machine-dyn g (b.vtable, b.value)).meaning b.value) c.exchange.new.plan.nodes c.exchange.new.plan.agents c.exchange.new.plan.kept.items c.exchange.new.plan.ends.items c.exchange.new.cells c.in_ok-exchange.ensures.exchanged.over.woven))
 
 pub returns-in_err-exchange-clause-carried : goal.returns-in_err-exchange-clause-carried
 returns-in_err-exchange-clause-carried g c = λ all. (nothing_on c.from_residual.result _ _ c.from_residual.ensures.1, err_on c.from_residual.result _ IsOtherFault c.from_residual.ensures.1 (c.in_err-exchange.ensures.carried all).1)

@@ -18,10 +18,9 @@ use Rattle.tcp_links.proofs.OverLaws.{err_on}
 use Rattle.tcp_links.proofs.LeftLaws.{keeps_same, keeps_then}
 use Rattle.node_exchange.proofs.TurnLaws.{turned_none}
 use Rattle.node_exchange.specs.Turned.{AreTurned}
-use Rattle.tcp_links.specs.Left.{pairs_lost_by}
-use Rattle.tcp_links.specs.Kept.{AreNoted}
-use Rattle.tcp_links.proofs.NotedLaws.{on_fault, fault_then}
-use Rattle.tcp_links.proofs.RunLaws.{linked_noted}
+use Rattle.tcp_links.specs.Left.{pairs_lost_by, AreNotedAfter}
+use Rattle.tcp_links.proofs.NotedLaws.{fed_but_one, fed_as, on_fault, fault_then}
+use Rattle.tcp_links.proofs.RunLaws.{linked_fed}
 use Rattle.tcp_links.proofs.run.run_nodes.Goals as goal
 
 pub run_over-requires-clause-plan : goal.run_over-requires-clause-plan
@@ -79,7 +78,8 @@ pub returns-clause-wires : goal.returns-clause-wires
 returns-clause-wires g c = subst (λ ws. AreTurned g.D.W.Wire.told g.D.W.Wire.is_joined (pairs_lost_by c.run_over.result) ws c.run_over.new.plan.wires.items) c.prepare.ensures.same.wires c.run_over.ensures.wires
 
 pub returns-in_err-prepare-clause-noted : goal.returns-in_err-prepare-clause-noted
-returns-in_err-prepare-clause-noted g c = on_fault c.from_residual.result (subst (λ ws. AreNoted ws c.prepare.new.plan.ends.items) (sym c.prepare.ensures.same.kept) (subst (AreNoted c.args.plan.now.kept.items) (sym c.prepare.ensures.same.ends) (linked_noted (λ b. (goal.Machine-dyn g (b.vtable, b.value)).meaning b.value) c.args.plan.now c.args.cells.now.items c.requires.plan c.requires.linked c.requires.joined)))
+returns-in_err-prepare-clause-noted g c = err_on c.from_residual.result _ (λ e. AreNotedAfter e c.prepare.new.plan.kept.items c.prepare.new.plan.ends.items) c.from_residual.ensures.1
+    (fed_but_one c.prepare.new.plan.kept.items c.prepare.new.plan.ends.items (fed_as c.prepare.new.plan.kept.items c.args.plan.now.kept.items c.prepare.new.plan.ends.items c.args.plan.now.ends.items c.prepare.ensures.same.kept c.prepare.ensures.same.ends (linked_fed (λ b. (goal.Machine-dyn g (b.vtable, b.value)).meaning b.value) c.args.plan.now c.args.cells.now.items c.requires.plan c.requires.linked c.requires.joined)))
 
 pub returns-clause-noted : goal.returns-clause-noted
 returns-clause-noted g c = c.run_over.ensures.noted
@@ -91,11 +91,11 @@ pub returns-clause-keeps : goal.returns-clause-keeps
 returns-clause-keeps g c = fault_then c.run_over.result (keeps_then c.args.plan.now c.prepare.new.plan c.run_over.new.plan (keeps_same c.args.plan.now c.prepare.new.plan c.prepare.ensures.same.agents c.prepare.ensures.same.nodes c.prepare.ensures.same.ends)) c.run_over.ensures.keeps
 
 pub returns-in_err-prepare-clause-left : goal.returns-in_err-prepare-clause-left
-returns-in_err-prepare-clause-left g c = err_on c.from_residual.result _ (IsLeftBy (λ b. (goal.Machine-dyn g (b.vtable, b.value)).meaning b.value) c.args.workers c.args.budget c.args.plan.now c.args.cells.now.items c.prepare.new.plan.kept.items c.args.cells.now.items) c.from_residual.ensures.1 (inl (record { none = c.prepare.ensures.same.kept; cells = inl refl }))
+returns-in_err-prepare-clause-left g c = err_on c.from_residual.result _ (IsLeftBy (λ b. (goal.Machine-dyn g (b.vtable, b.value)).meaning b.value) c.args.workers c.args.budget c.args.plan.now c.args.cells.now.items c.prepare.new.plan.kept.items c.prepare.new.plan.ends.items c.args.cells.now.items) c.from_residual.ensures.1 (inl (record { none = c.prepare.ensures.same.kept; same = c.prepare.ensures.same.ends; cells = inl refl }))
 
 pub returns-clause-left : goal.returns-clause-left
-returns-clause-left g c = carry (λ old new. IfErr c.run_over.result (IsLeftBy (λ b. (goal.Machine-dyn g (b.vtable, b.value)).meaning b.value) c.args.workers c.args.budget c.args.plan.now old c.run_over.new.plan.kept.items new)) _ _ _ _ c.as_mut_slice.ensures.value (written _ c.args.cells.now.items c.run_over.new.cells c.as_mut_slice.result.now c.args.cells.now.ok.0 c.run_over.ensures.size c.as_mut_slice.ensures.value)
-    (on_err _ _ c.run_over.result (λ e. left_as (λ b. (goal.Machine-dyn g (b.vtable, b.value)).meaning b.value) c.args.workers c.args.budget c.args.plan.now c.prepare.new.plan c.run_over.new.plan.kept.items c.as_mut_slice.result.now c.run_over.new.cells e c.prepare.ensures.same.agents c.prepare.ensures.same.nodes c.prepare.ensures.same.kept) c.run_over.ensures.left)
+returns-clause-left g c = carry (λ old new. IfErr c.run_over.result (IsLeftBy (λ b. (goal.Machine-dyn g (b.vtable, b.value)).meaning b.value) c.args.workers c.args.budget c.args.plan.now old c.run_over.new.plan.kept.items c.run_over.new.plan.ends.items new)) _ _ _ _ c.as_mut_slice.ensures.value (written _ c.args.cells.now.items c.run_over.new.cells c.as_mut_slice.result.now c.args.cells.now.ok.0 c.run_over.ensures.size c.as_mut_slice.ensures.value)
+    (on_err _ _ c.run_over.result (λ e. left_as (λ b. (goal.Machine-dyn g (b.vtable, b.value)).meaning b.value) c.args.workers c.args.budget c.args.plan.now c.prepare.new.plan c.run_over.new.plan.kept.items c.run_over.new.plan.ends.items c.as_mut_slice.result.now c.run_over.new.cells e c.prepare.ensures.same.agents c.prepare.ensures.same.nodes c.prepare.ensures.same.kept c.prepare.ensures.same.ends) c.run_over.ensures.left)
 
 pub returns-clause-carried : goal.returns-clause-carried
 returns-clause-carried g c = c.run_over.ensures.carried

@@ -13,15 +13,15 @@ use Rattle.tcp_links.specs.Faults.{IsOtherFault}
 use Rattle.tcp_links.proofs.OverLaws.{err_on, nothing_on, cause_on, joined_over, joined_quiet}
 use Rattle.tcp_links.proofs.RunLaws.{held_in, differs_in, never_differ, starts_over, joined_start, none_start, over_start, held_start, new_over, left_come, fault_last, differs_kept, no_break, last_run, last_duly, last_still, last_held}
 use Rattle.tcp_links.proofs.SharedLaws.{run_shared}
-use Rattle.tcp_links.specs.Left.{IsTakenOut}
+use Rattle.tcp_links.specs.Left.{IsTakenOut, AreNotedAfter}
 use Rattle.tcp_links.proofs.LeftLaws.{keeps_none, keeps_same, keeps_then, taken_long, same_then}
 use Rattle.node_exchange.proofs.TurnLaws.{turned_none, turned_then}
 use Rattle.node_exchange.proofs.WholeLaws.{turned_back}
 use Rattle.node_exchange.specs.Turned.{AreTurned}
 use Rattle.tcp_links.proofs.LostLaws.{turned_on}
-use Rattle.tcp_links.specs.Kept.{AreNoted}
-use Rattle.tcp_links.proofs.NotedLaws.{noted_out, on_fault}
-use Rattle.tcp_links.proofs.RunLaws.{linked_noted}
+use Rattle.tcp_links.proofs.NotedLaws.{kept_out, fed_but_one, on_fault}
+use Rattle.tcp_links.proofs.ExchangeLaws.{woven_kept}
+use Rattle.tcp_links.proofs.RunLaws.{linked_fed}
 use Rattle.tcp_links.proofs.run.run_over.Goals as goal
 
 pub play_over-requires-clause-over : goal.play_over-requires-clause-over
@@ -184,19 +184,20 @@ pub returns-clause-wires : goal.returns-clause-wires
 returns-clause-wires g c = subst (λ ws. AreTurned g.D.W.Wire.told g.D.W.Wire.is_joined 0 c.args.plan.now.wires.items ws) (sym c.clear_links.ensures.wires) (turned_then g.D.W.Wire.told g.D.W.Wire.is_joined 0 c.args.plan.now.wires.items c.play_over.new.plan.wires.items c.exchange.new.plan.wires.items c.in_ok-play.ensures.wires c.in_ok-exchange.ensures.wires)
 
 pub returns-in_err-begin_all-clause-noted : goal.returns-in_err-begin_all-clause-noted
-returns-in_err-begin_all-clause-noted g c = on_fault c.from_residual.result (linked_noted (λ b. (goal.Machine-dyn g (b.vtable, b.value)).meaning b.value) c.args.plan.now c.args.cells.now c.requires.plan c.requires.linked c.requires.joined)
+returns-in_err-begin_all-clause-noted g c = err_on c.from_residual.result _ (λ e. AreNotedAfter e c.args.plan.now.kept.items c.args.plan.now.ends.items) c.from_residual.ensures.1 (fed_but_one c.args.plan.now.kept.items c.args.plan.now.ends.items (linked_fed (λ b. (goal.Machine-dyn g (b.vtable, b.value)).meaning b.value) c.args.plan.now c.args.cells.now c.requires.plan c.requires.linked c.requires.joined))
 
 pub returns-in_err-play-clause-noted : goal.returns-in_err-play-clause-noted
-returns-in_err-play-clause-noted g c = on_fault c.from_residual-in_err-play.result c.play_over.ensures.noted
+returns-in_err-play-clause-noted g c = err_on c.from_residual-in_err-play.result _ (λ e. AreNotedAfter e c.play_over.new.plan.kept.items c.play_over.new.plan.ends.items) c.from_residual-in_err-play.ensures.1 c.in_err-play.ensures.noted
 
 pub returns-in_err-exchange-clause-noted : goal.returns-in_err-exchange-clause-noted
-returns-in_err-exchange-clause-noted g c = on_fault c.from_residual-in_err-exchange.result c.exchange.ensures.noted
+returns-in_err-exchange-clause-noted g c = err_on c.from_residual-in_err-exchange.result _ (λ e. AreNotedAfter e c.exchange.new.plan.kept.items c.exchange.new.plan.ends.items) c.from_residual-in_err-exchange.ensures.1 c.in_err-exchange.ensures.noted
 
 pub returns-in-Some-clause-noted : goal.returns-in-Some-clause-noted
 returns-in-Some-clause-noted g c =
     let out = subst (λ ws. IsTakenOut c.in-Some.difference ws c.compare.new.kept) c.as_mut_slice.ensures.value c.in-Some.ensures.left in
     let kept = written _ c.exchange.new.plan.kept.items c.compare.new.kept c.as_mut_slice.result.now c.exchange.new.plan.kept.ok.0 (taken_long c.in-Some.difference c.as_mut_slice.result.now c.compare.new.kept c.in-Some.ensures.left) c.as_mut_slice.ensures.value in
-    subst (λ ws. AreNoted ws c.exchange.new.plan.ends.items) (sym kept) (noted_out c.in-Some.difference c.exchange.new.plan.kept.items c.compare.new.kept c.exchange.new.plan.ends.items out c.exchange.ensures.noted)
+    subst (λ ws. AreNotedAfter (Differs c.in-Some.difference) ws c.exchange.new.plan.ends.items) (sym kept) (kept_out c.in-Some.difference c.exchange.new.plan.kept.items c.compare.new.kept c.exchange.new.plan.ends.items out
+    (woven_kept (λ b. (goal.Machine-dyn g (b.vtable, b.value)).meaning b.value) c.exchange.new.plan.nodes c.exchange.new.plan.agents c.exchange.new.plan.kept.items c.exchange.new.plan.ends.items c.exchange.new.cells c.in_ok-exchange.ensures.exchanged.over.woven))
 
 pub returns-in_err-begin_all-clause-keeps : goal.returns-in_err-begin_all-clause-keeps
 returns-in_err-begin_all-clause-keeps g c = on_fault c.from_residual.result (keeps_none c.args.plan.now)
@@ -211,22 +212,22 @@ pub returns-in-Some-clause-keeps : goal.returns-in-Some-clause-keeps
 returns-in-Some-clause-keeps g c = keeps_then c.args.plan.now c.exchange.new.plan _ (keeps_then c.args.plan.now c.play_over.new.plan c.exchange.new.plan c.play_over.ensures.keeps c.exchange.ensures.keeps) (keeps_same c.exchange.new.plan _ refl refl refl)
 
 pub returns-in_err-begin_all-clause-left : goal.returns-in_err-begin_all-clause-left
-returns-in_err-begin_all-clause-left g c = err_on c.from_residual.result _ (IsLeftBy (λ b. (goal.Machine-dyn g (b.vtable, b.value)).meaning b.value) c.args.workers c.args.budget c.args.plan.now c.args.cells.now c.args.plan.now.kept.items c.begin_all.new.cells) c.from_residual.ensures.1 (inl (record { none = refl; cells = inr c.in_err-begin_all.ensures.left }))
+returns-in_err-begin_all-clause-left g c = err_on c.from_residual.result _ (IsLeftBy (λ b. (goal.Machine-dyn g (b.vtable, b.value)).meaning b.value) c.args.workers c.args.budget c.args.plan.now c.args.cells.now c.args.plan.now.kept.items c.args.plan.now.ends.items c.begin_all.new.cells) c.from_residual.ensures.1 (inl (record { none = refl; same = refl; cells = inr c.in_err-begin_all.ensures.left }))
 
 pub returns-in_err-play-clause-left : goal.returns-in_err-play-clause-left
-returns-in_err-play-clause-left g c = err_on c.from_residual-in_err-play.result _ (IsLeftBy (λ b. (goal.Machine-dyn g (b.vtable, b.value)).meaning b.value) c.args.workers c.args.budget c.args.plan.now c.args.cells.now c.play_over.new.plan.kept.items c.play_over.new.cells) c.from_residual-in_err-play.ensures.1
-    (left_come (λ b. (goal.Machine-dyn g (b.vtable, b.value)).meaning b.value) c.args.workers c.args.budget c.args.plan.now c.play_over.new.plan.kept.items c.args.cells.now c.play_over.new.cells (states_of (λ b. (goal.Machine-dyn g (b.vtable, b.value)).meaning b.value) c.begin_all.new.cells) _ (starts_over (λ b. (goal.Machine-dyn g (b.vtable, b.value)).meaning b.value) c.args.plan.now.nodes c.args.cells.now c.begin_all.new.cells c.requires.joined c.in_ok-begin_all.ensures.started) c.in_err-play.ensures.left)
+returns-in_err-play-clause-left g c = err_on c.from_residual-in_err-play.result _ (IsLeftBy (λ b. (goal.Machine-dyn g (b.vtable, b.value)).meaning b.value) c.args.workers c.args.budget c.args.plan.now c.args.cells.now c.play_over.new.plan.kept.items c.play_over.new.plan.ends.items c.play_over.new.cells) c.from_residual-in_err-play.ensures.1
+    (left_come (λ b. (goal.Machine-dyn g (b.vtable, b.value)).meaning b.value) c.args.workers c.args.budget c.args.plan.now c.play_over.new.plan.kept.items c.play_over.new.plan.ends.items c.args.cells.now c.play_over.new.cells (states_of (λ b. (goal.Machine-dyn g (b.vtable, b.value)).meaning b.value) c.begin_all.new.cells) _ (starts_over (λ b. (goal.Machine-dyn g (b.vtable, b.value)).meaning b.value) c.args.plan.now.nodes c.args.cells.now c.begin_all.new.cells c.requires.joined c.in_ok-begin_all.ensures.started) c.in_err-play.ensures.left)
 
 pub returns-in_err-exchange-clause-left : goal.returns-in_err-exchange-clause-left
-returns-in_err-exchange-clause-left g c = err_on c.from_residual-in_err-exchange.result _ (IsLeftBy (λ b. (goal.Machine-dyn g (b.vtable, b.value)).meaning b.value) c.args.workers c.args.budget c.args.plan.now c.args.cells.now c.exchange.new.plan.kept.items c.exchange.new.cells) c.from_residual-in_err-exchange.ensures.1
-    (left_come (λ b. (goal.Machine-dyn g (b.vtable, b.value)).meaning b.value) c.args.workers c.args.budget c.args.plan.now c.exchange.new.plan.kept.items c.args.cells.now c.exchange.new.cells (states_of (λ b. (goal.Machine-dyn g (b.vtable, b.value)).meaning b.value) c.begin_all.new.cells) _ (starts_over (λ b. (goal.Machine-dyn g (b.vtable, b.value)).meaning b.value) c.args.plan.now.nodes c.args.cells.now c.begin_all.new.cells c.requires.joined c.in_ok-begin_all.ensures.started)
+returns-in_err-exchange-clause-left g c = err_on c.from_residual-in_err-exchange.result _ (IsLeftBy (λ b. (goal.Machine-dyn g (b.vtable, b.value)).meaning b.value) c.args.workers c.args.budget c.args.plan.now c.args.cells.now c.exchange.new.plan.kept.items c.exchange.new.plan.ends.items c.exchange.new.cells) c.from_residual-in_err-exchange.ensures.1
+    (left_come (λ b. (goal.Machine-dyn g (b.vtable, b.value)).meaning b.value) c.args.workers c.args.budget c.args.plan.now c.exchange.new.plan.kept.items c.exchange.new.plan.ends.items c.args.cells.now c.exchange.new.cells (states_of (λ b. (goal.Machine-dyn g (b.vtable, b.value)).meaning b.value) c.begin_all.new.cells) _ (starts_over (λ b. (goal.Machine-dyn g (b.vtable, b.value)).meaning b.value) c.args.plan.now.nodes c.args.cells.now c.begin_all.new.cells c.requires.joined c.in_ok-begin_all.ensures.started)
     (fault_last (λ b. (goal.Machine-dyn g (b.vtable, b.value)).meaning b.value) c.args.budget c.in_ok-play.play.rounds (views_of (λ b. (goal.Machine-dyn g (b.vtable, b.value)).meaning b.value) c.args.cells.now) (states_of (λ b. (goal.Machine-dyn g (b.vtable, b.value)).meaning b.value) c.begin_all.new.cells) c.args.plan.now c.play_over.new.plan c.play_over.new.cells c.in_ok-play.play.end (starts_over (λ b. (goal.Machine-dyn g (b.vtable, b.value)).meaning b.value) c.args.plan.now.nodes c.args.cells.now c.begin_all.new.cells c.requires.joined c.in_ok-begin_all.ensures.started) c.in_ok-play.ensures.over c.in_ok-play.ensures.played c.args.workers c.exchange.new.plan c.exchange.new.cells _ c.in_err-exchange.ensures.left))
 
 pub returns-in-Some-clause-left : goal.returns-in-Some-clause-left
 returns-in-Some-clause-left g c =
     let out = subst (λ ws. IsTakenOut c.in-Some.difference ws c.compare.new.kept) c.as_mut_slice.ensures.value c.in-Some.ensures.left in
     let kept = written _ c.exchange.new.plan.kept.items c.compare.new.kept c.as_mut_slice.result.now c.exchange.new.plan.kept.ok.0 (taken_long c.in-Some.difference c.as_mut_slice.result.now c.compare.new.kept c.in-Some.ensures.left) c.as_mut_slice.ensures.value in
-    left_come (λ b. (goal.Machine-dyn g (b.vtable, b.value)).meaning b.value) c.args.workers c.args.budget c.args.plan.now _ c.args.cells.now c.settle_all.new.cells (states_of (λ b. (goal.Machine-dyn g (b.vtable, b.value)).meaning b.value) c.begin_all.new.cells) (Differs c.in-Some.difference) (starts_over (λ b. (goal.Machine-dyn g (b.vtable, b.value)).meaning b.value) c.args.plan.now.nodes c.args.cells.now c.begin_all.new.cells c.requires.joined c.in_ok-begin_all.ensures.started)
+    left_come (λ b. (goal.Machine-dyn g (b.vtable, b.value)).meaning b.value) c.args.workers c.args.budget c.args.plan.now _ c.exchange.new.plan.ends.items c.args.cells.now c.settle_all.new.cells (states_of (λ b. (goal.Machine-dyn g (b.vtable, b.value)).meaning b.value) c.begin_all.new.cells) (Differs c.in-Some.difference) (starts_over (λ b. (goal.Machine-dyn g (b.vtable, b.value)).meaning b.value) c.args.plan.now.nodes c.args.cells.now c.begin_all.new.cells c.requires.joined c.in_ok-begin_all.ensures.started)
     (differs_kept (λ b. (goal.Machine-dyn g (b.vtable, b.value)).meaning b.value) c.args.budget c.in_ok-play.play.rounds (views_of (λ b. (goal.Machine-dyn g (b.vtable, b.value)).meaning b.value) c.args.cells.now) (states_of (λ b. (goal.Machine-dyn g (b.vtable, b.value)).meaning b.value) c.begin_all.new.cells) c.args.plan.now c.play_over.new.plan c.play_over.new.cells c.in_ok-play.play.end (starts_over (λ b. (goal.Machine-dyn g (b.vtable, b.value)).meaning b.value) c.args.plan.now.nodes c.args.cells.now c.begin_all.new.cells c.requires.joined c.in_ok-begin_all.ensures.started) c.in_ok-play.ensures.over c.in_ok-play.ensures.played c.exchange.new.plan c.exchange.new.cells c.settle_all.new.cells c.in_ok-exchange.ensures.exchanged c.settle_all.ensures.settled c.args.workers c.in-Some.difference _ (differs_in _ _ _ c.as_mut_slice.ensures.value c.in-Some.ensures.found) (subst (λ ws. IsTakenOut c.in-Some.difference c.exchange.new.plan.kept.items ws) (sym kept) out))
 
 pub returns-in_err-play-clause-carried : goal.returns-in_err-play-clause-carried

@@ -4,7 +4,7 @@ use Rattle.agent_workers.proofs.ListLaws.{element_at}
 use Rattle.agent_workers.proofs.JoinLaws.{each_stays, each_stays_then}
 use Rattle.tcp_links.specs.Woven.{HaveDrained}
 use Rattle.tcp_links.proofs.WeaveLaws.{drained_none, drain_inside, drain_next, sent_next, drain_turn}
-use Rattle.tcp_links.proofs.LeftLaws.{all_ends_none, all_ends_set}
+use Rattle.tcp_links.proofs.LeftLaws.{all_ends_none, all_ends_set, all_feeds_none, all_feeds_set}
 use Rattle.tcp_links.proofs.weave.drain_all.Goals as goal
 
 pub loop-place-init : goal.loop-place-init
@@ -12,6 +12,7 @@ loop-place-init g c = record {
   quiet = each_stays (λ b. (goal.Machine-dyn g (b.vtable, b.value)).meaning b.value) c.args.cells.now;
   ends = c.requires.sizes;
   same = all_ends_none c.args.ends.now;
+  feeds = all_feeds_none c.args.ends.now;
   passings = c.requires.idle.1.size;
   drained = λ node idle. drained_none (λ b. (goal.Machine-dyn g (b.vtable, b.value)).meaning b.value) node c.args.cells.now c.args.kept.now c.args.ends.now c.args.passings.now idle;
 }
@@ -76,6 +77,7 @@ loop-place-preserved g c =
       quiet = each_stays_then (λ b. (goal.Machine-dyn g (b.vtable, b.value)).meaning b.value) c.args.cells.now c.loop-place.cells c.drain_at.new.cells i.quiet c.drain_at.ensures.quiet;
       ends = length-set c.loop-place.ends c.loop-place.place c.drain_at.new.ends ∙ i.ends;
       same = all_ends_set c.args.ends.now c.loop-place.ends c.loop-place.place c.index-ends-place.result c.drain_at.new.ends i.same (omega (arith, test, long)) c.drain_at.ensures.ends;
+      feeds = all_feeds_set c.args.ends.now c.loop-place.ends c.loop-place.place c.index-ends-place.result c.drain_at.new.ends i.feeds (omega (arith, test, long)) c.drain_at.ensures.feeds;
       passings = length-set c.loop-place.passings c.loop-place.place c.drain_at.new.passing ∙ i.passings;
       drained = λ node idle. drain_turn (λ b. (goal.Machine-dyn g (b.vtable, b.value)).meaning b.value) node c.loop-place.place c.args.cells.now c.loop-place.cells c.args.kept.now c.args.ends.now c.loop-place.ends c.loop-place.passings
           c.index-kept-place.result (get_or c.loop-place.ends c.loop-place.place c.index-ends-place.result) c.drain_at.new.ends (get_or c.loop-place.passings c.loop-place.place c.index-passings-place.result) c.drain_at.new.passing
@@ -97,3 +99,12 @@ returns-in_err-drain_at-clause-ends g c =
 
 pub returns-clause-ends : goal.returns-clause-ends
 returns-clause-ends g c = c.loop-place.invariant.same
+
+pub returns-in_err-drain_at-clause-feeds : goal.returns-in_err-drain_at-clause-feeds
+returns-in_err-drain_at-clause-feeds g c =
+    let test = c.loop-place-test.true in
+    let long = c.loop-place.invariant.ends in
+    all_feeds_set c.args.ends.now c.loop-place.ends c.loop-place.place c.index-ends-place.result c.drain_at.new.ends c.loop-place.invariant.feeds (omega (arith, test, long)) c.drain_at.ensures.feeds
+
+pub returns-clause-feeds : goal.returns-clause-feeds
+returns-clause-feeds g c = c.loop-place.invariant.feeds

@@ -5,7 +5,7 @@ use Rattle.tcp_links.specs.Woven.{HaveFed, AreEmptied}
 use Rattle.tcp_links.proofs.WeaveLaws.{feed_inside, feed_next, feed_turn, taken_next, link_next, note_next, emptied_turn, emptied_none, fed_none}
 use Rattle.tcp_links.proofs.LeftLaws.{all_ends_none, all_ends_set}
 use Rattle.tcp_links.proofs.PartLaws.{keep_none, keep_next}
-use Rattle.tcp_links.proofs.NotedLaws.{all_to_noted, noted_set}
+use Rattle.tcp_links.proofs.NotedLaws.{all_to_fed, fed_set, fed_but_one, set_but_one}
 use Rattle.tcp_links.proofs.weave.feed_all.Goals as goal
 
 pub loop-place-init : goal.loop-place-init
@@ -14,7 +14,7 @@ loop-place-init g c = record {
   fed = fed_none (λ b. (goal.Machine-dyn g (b.vtable, b.value)).meaning b.value) c.args.cells.now c.args.kept.now c.args.ends.now c.args.passings.now;
   same = all_ends_none c.args.ends.now;
   kept = keep_none c.args.kept.now c.args.passings.now;
-  noted = all_to_noted c.args.kept.now c.args.ends.now c.args.passings.now c.requires.sizes.0 c.requires.sizes.1;
+  noted = all_to_fed c.args.kept.now c.args.ends.now c.args.passings.now c.requires.sizes.0 c.requires.sizes.1;
   left = emptied_none c.args.passings.now;
 }
 
@@ -86,8 +86,8 @@ loop-place-preserved g c =
           (get_or c.loop-place.kept c.loop-place.place c.index-kept-place.result) c.feed_at.new.link (get_or c.loop-place.ends c.loop-place.place c.index-ends-place.result) c.feed_at.new.ends (get_or c.loop-place.passings c.loop-place.place c.index-passings-place.result) i.fed c.requires.can.apart c.feed_at.ensures.quiet c.feed_at.ensures.known at_w at_d at_p c.in_ok-feed_at.ensures.fed;
       same = all_ends_set c.args.ends.now c.loop-place.ends c.loop-place.place c.index-ends-place.result c.feed_at.new.ends i.same (omega (arith, test, size, long)) c.feed_at.ensures.ends;
       kept = keep_next (λ b. (goal.Machine-dyn g (b.vtable, b.value)).meaning b.value) c.loop-place.place c.loop-place.cells c.args.kept.now c.loop-place.kept c.args.ends.now c.loop-place.ends c.args.passings.now c.loop-place.passings (get_or c.loop-place.kept c.loop-place.place c.index-kept-place.result) c.feed_at.new.link (get_or c.loop-place.passings c.loop-place.place c.index-passings-place.result) i.fed i.left i.kept at_w at_q c.feed_at.ensures.kept;
-      noted = λ t. noted_set c.loop-place.kept c.loop-place.ends c.loop-place.place c.feed_at.new.link c.feed_at.new.ends (i.noted t)
-          (c.feed_at.ensures.noted (note_next (λ b. (goal.Machine-dyn g (b.vtable, b.value)).meaning b.value) c.loop-place.place c.loop-place.cells c.args.kept.now c.loop-place.kept c.args.ends.now c.loop-place.ends c.args.passings.now c.loop-place.passings
+      noted = λ t. fed_set c.loop-place.kept c.loop-place.ends c.loop-place.place c.feed_at.new.link c.feed_at.new.ends (i.noted t)
+          (c.in_ok-feed_at.ensures.all (note_next (λ b. (goal.Machine-dyn g (b.vtable, b.value)).meaning b.value) c.loop-place.place c.loop-place.cells c.args.kept.now c.loop-place.kept c.args.ends.now c.loop-place.ends c.args.passings.now c.loop-place.passings
           (get_or c.loop-place.kept c.loop-place.place c.index-kept-place.result) (get_or c.loop-place.ends c.loop-place.place c.index-ends-place.result) (get_or c.loop-place.passings c.loop-place.place c.index-passings-place.result) i.fed i.left at_w at_d at_q t));
       left = emptied_turn c.loop-place.place c.args.passings.now c.loop-place.passings (get_or c.loop-place.passings c.loop-place.place c.index-passings-place.result) c.feed_at.new.passing i.left at_q c.in_ok-feed_at.ensures.left;
     }
@@ -143,9 +143,12 @@ returns-in_err-feed_at-clause-noted g c = λ t.
     let more = i.left.size in
     let many = c.requires.sizes.1 in
     let at_q = slice_get-get_or c.loop-place.passings c.loop-place.place c.index-passings-place.result (omega (arith, test, more, many)) in
-    noted_set c.loop-place.kept c.loop-place.ends c.loop-place.place c.feed_at.new.link c.feed_at.new.ends (i.noted t)
+    set_but_one c.loop-place.kept c.loop-place.ends c.loop-place.place c.feed_at.new.link c.feed_at.new.ends (i.noted t) (omega (arith, test, wires)) (omega (arith, test, size, long))
     (c.feed_at.ensures.noted (note_next (λ b. (goal.Machine-dyn g (b.vtable, b.value)).meaning b.value) c.loop-place.place c.loop-place.cells c.args.kept.now c.loop-place.kept c.args.ends.now c.loop-place.ends c.args.passings.now c.loop-place.passings
     (get_or c.loop-place.kept c.loop-place.place c.index-kept-place.result) (get_or c.loop-place.ends c.loop-place.place c.index-ends-place.result) (get_or c.loop-place.passings c.loop-place.place c.index-passings-place.result) i.fed i.left at_w at_d at_q t))
 
 pub returns-clause-noted : goal.returns-clause-noted
-returns-clause-noted g c = c.loop-place.invariant.noted
+returns-clause-noted g c = λ t. fed_but_one c.loop-place.kept c.loop-place.ends (c.loop-place.invariant.noted t)
+
+pub returns-clause-all : goal.returns-clause-all
+returns-clause-all g c = c.loop-place.invariant.noted

@@ -3,7 +3,7 @@ use Rattle.link_records.specs.Keeping.{keeps}
 use Rattle.tcp_links.proofs.WeaveLaws.{one_quiet, one_knows_so, feed_can, fed_link, inside_list}
 use Rattle.fifo_links.specs.Link.{taken_from, sent_on}
 use Rattle.tcp_links.proofs.DrainLaws.{head_none, prefix_none}
-use Rattle.tcp_links.proofs.NotedLaws.{to_noted, noted_fed, noted_kept}
+use Rattle.tcp_links.proofs.NotedLaws.{to_noted, to_fed, noted_fed, noted_kept, fed_kept}
 use Rattle.tcp_links.proofs.LeftLaws.{ends_none}
 use Rattle.tcp_links.proofs.weave.feed_at.Goals as goal
 
@@ -66,3 +66,9 @@ returns-in_err-ends-clause-noted g c = λ t. noted_fed c.args.link.now c.args.en
 
 pub returns-clause-noted : goal.returns-clause-noted
 returns-clause-noted g c = λ t. noted_kept c.args.link.now c.keep.new.self c.args.ends.now _ c.args.passing.now t (c.keep.ensures.kept ∙ ap₂ (keeps c.args.link.now) c.take_lists-drained.ensures.lists.0 c.take_lists-drained.ensures.lists.1) refl (c.in_ok-ends.ensures.fed ∙ ap (λ es. sent_on c.args.ends.now.feed ++ es) (c.as_slice.ensures.value ∙ c.take_lists-drained.ensures.lists.1))
+
+pub returns-then-rests-clause-all : goal.returns-then-rests-clause-all
+returns-then-rests-clause-all g c = λ t. to_fed c.args.link.now c.args.ends.now c.args.passing.now t
+
+pub returns-clause-all : goal.returns-clause-all
+returns-clause-all g c = λ t. fed_kept c.args.link.now c.keep.new.self c.args.ends.now _ c.args.passing.now t (c.keep.ensures.kept ∙ ap₂ (keeps c.args.link.now) c.take_lists-drained.ensures.lists.0 c.take_lists-drained.ensures.lists.1) refl (c.in_ok-ends.ensures.fed ∙ ap (λ es. sent_on c.args.ends.now.feed ++ es) (c.as_slice.ensures.value ∙ c.take_lists-drained.ensures.lists.1))
