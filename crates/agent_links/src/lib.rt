@@ -5,7 +5,8 @@
 //! run, and gives each the ends of its links. An [`Agent`] is a machine of any kind, and a plain
 //! value here: whoever runs the agents boxes each one and puts it into a cell with its ends. The
 //! cells are then ready to run. [`make_each`] has the loop for it, and needs no box. When the run
-//! has ended, [`outcome_of`] reads the outcome of the agents from the cells.
+//! has ended, [`outcome_of`] reads the outcome of the agents from the cells. [`workers_share`] says
+//! whether cells pay for a run at all.
 #![tactic(auto)]
 
 mod agent;
@@ -14,6 +15,7 @@ mod links;
 mod outcome;
 mod seat;
 mod seats;
+mod sharing;
 
 pub use agent::{Agent, Kind};
 pub use fill::make_each;
@@ -21,3 +23,4 @@ pub use links::{Links, link_all};
 pub use outcome::outcome_of;
 pub use seat::Seat;
 pub use seats::{known_in, seat_all, seats_of};
+pub use sharing::workers_share;

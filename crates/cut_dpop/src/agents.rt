@@ -9,7 +9,7 @@ ghost use Rattle.cut_dpop.specs.Start.{turn_deliveries};
 
 use crate::crew::Crew;
 use agent_cells::Cell;
-use agent_links::{Seat, make_each, outcome_of, seats_of};
+use agent_links::{Seat, make_each, outcome_of, seats_of, workers_share};
 use agent_workers::run;
 use dcop_base::{NoMemory, Problem, problem_is_whole};
 use dcop_edge::Gate;
@@ -21,8 +21,8 @@ use std::thread::Threads;
 use worker_laws::cells_tell_outcomes;
 
 /// Runs the agents of a problem from this start, in rounds, until all have ended or as many
-/// messages are delivered as DPOP takes. Workers run them in cells; a single worker runs them on
-/// this thread, without cells and links.
+/// messages are delivered as DPOP takes. Workers that share them run them in cells; otherwise they
+/// are played on this thread, without cells and links.
 pub(crate) fn run_agents<R: Threads + Sync, G: Gate>(
     crew: &Crew<R, G>,
     alloc: Global,
@@ -32,7 +32,7 @@ pub(crate) fn run_agents<R: Threads + Sync, G: Gate>(
     requires start { IsStartFor problem.now start.now }
     ensures { IfOk result (HaveRun (turn_deliveries problem.now) (agents_of problem.now start.now)) }
 {
-    if crew.workers > 1 {
+    if workers_share(crew.rt, alloc, problem, start, crew.workers)? {
         return run_cells(crew, alloc, problem, start);
     }
     play_alone(crew.gate, alloc, problem, start)

@@ -21,7 +21,7 @@ ghost use Rattle.agent_links.specs.Kinds.{view_of};
 use crate::crew::Crew;
 use crate::logging::log_if;
 use agent_cells::Cell;
-use agent_links::{Seat, make_each, outcome_of, seats_of};
+use agent_links::{Seat, make_each, outcome_of, seats_of, workers_share};
 use agent_workers::run;
 use dcop_base::{NoMemory, Problem, problem_is_whole};
 use dcop_edge::Gate;
@@ -54,9 +54,9 @@ fn run_agents<R: Threads + Sync, G: Gate>(
     Ok(ran.outcome)
 }
 
-/// The same, with the log of the run if it is requested. One worker plays the agents on this thread,
-/// without cells and links. One loop plays them with a log and without one, but no clause compares
-/// the two runs.
+/// The same, with the log of the run if it is requested. If workers do not share the agents, they
+/// are played on this thread, without cells and links. One loop plays them with a log and without
+/// one, but no clause compares the two runs.
 pub(crate) fn run_logged<R: Threads + Sync, G: Gate>(
     crew: &Crew<R, G>,
     alloc: Global,
@@ -69,7 +69,7 @@ pub(crate) fn run_logged<R: Threads + Sync, G: Gate>(
     requires budget { budget ≤ budget_limit }
     ensures { IfOk result (HaveLogged budget (agents_of problem.now start.now) certified) }
 {
-    if crew.workers > 1 {
+    if workers_share(crew.rt, alloc, problem, start, crew.workers)? {
         return run_cells(crew, alloc, problem, start, budget, certified);
     }
     play_alone(crew.gate, alloc, problem, start, budget, certified)

@@ -2,8 +2,8 @@
 //!
 //! [`choose_for`], [`reach_for`] and [`settle_for`] run the agents for DPOP, ADOPT and auto, after
 //! the search for the depth-first tree. [`find_tree`] and [`tree_for`] make that search alone. If
-//! one worker runs the agents in one node, they are played on the calling thread, without cells and
-//! links, whether a log is requested or not.
+//! workers do not share the agents of one node, they are played on the calling thread, without
+//! cells and links, whether a log is requested or not.
 //!
 //! It builds on `agent_links` and `agent_workers` for one node, on `node_seats` and `tcp_links` for
 //! several, on `delivery_turns` for one thread, and on `solve_methods` for the results.
