@@ -14,21 +14,21 @@ fn a_log_is_written_and_read_again(rt: HostRuntime) -> Result<(), Fail> {
     let mut names = Names::new(rt.alloc());
     names.push("x")?;
     names.push("y")?;
-    let takes = vec![in rt.alloc();
-        Take {
-            from: VarId(1),
-            count: 2
-        },
-    ]?;
-    let event = LogEvent {
+    let take = Take {
+        from: VarId(1),
+        count: 2,
+    };
+    let takes = Vec::from_slice(rt.alloc(), &[take])?;
+    let mut events = Vec::new(rt.alloc());
+    events.push(LogEvent {
         agent: VarId(0),
         stamp: 1,
         takes: Sequence::from_vec(takes),
-    };
-    let log = Log::from_vec(vec![in rt.alloc(); event]?);
+    })?;
+    let log = Log::from_vec(events);
     let written = write_log(rt.alloc(), &log, &names)?;
-    assert_eq!(rt; written.as_slice(), TEXT);
+    assert!(rt; written.as_slice() == TEXT);
     let read = read_log(rt.alloc(), TEXT, &names)?;
-    assert_eq!(rt; read.as_slice().len(), 1);
+    assert!(rt; read.as_slice().len() == 1);
     Ok(())
 }

@@ -11,7 +11,7 @@ ghost use Rattle.agent_cells.specs.State.{begun_in, IsCell};
 use adopt_agent::AdoptAgent;
 use adopt_context::AgentContext;
 use agent_cells::{Cell, Sealed};
-use dcop_base::{CellList, Private, SizeList, TableList, Val, VarId, VarList};
+use dcop_base::{CellList, NoMemory, Private, SizeList, TableList, Val, VarId, VarList};
 use dcop_edge::OpenGate;
 use dfs_agent::TokenAgent;
 use dpop_agent::DpopAgent;
@@ -22,8 +22,15 @@ use std::alloc::Global;
 use std::process::Abort;
 use std::test::Fail;
 
+/// The child alone.
+fn child(alloc: Global) -> Result<VarList, NoMemory>
+    ensures { IfOk result (λ vars. vars ≡ 1 ∷ []) }
+{
+    Ok(VarList::from_vec(vec![in alloc; VarId(1)]?))
+}
+
 /// What the root knows.
-fn known(alloc: Global) -> Result<Private, Fail>
+fn known(alloc: Global) -> Result<Private, NoMemory>
     ensures known { IfOk result IsKnowledge }
     ensures me { IfOk result (λ own. own.me ≡ 0) }
     ensures near { IfOk result (λ own. own.neighbours ≡ 1 ∷ []) }
@@ -31,14 +38,14 @@ fn known(alloc: Global) -> Result<Private, Fail>
     Ok(Private {
         me: VarId(0),
         size: 1,
-        neighbours: VarList::from_vec(vec![in alloc; VarId(1)]?),
+        neighbours: child(alloc)?,
         neighbour_sizes: SizeList::from_vec(vec![in alloc; 1]?),
         tables: TableList::from_vec(Vec::new(alloc)),
     })
 }
 
 /// The root's place in the tree.
-fn above(alloc: Global) -> Result<Place, Fail>
+fn above(alloc: Global) -> Result<Place, NoMemory>
     ensures { IfOk result (λ place. place ≡ (record {
       me = 0;
       path = [];
@@ -51,8 +58,8 @@ fn above(alloc: Global) -> Result<Place, Fail>
         me: VarId(0),
         path: VarList::from_vec(Vec::new(alloc)),
         path_sizes: SizeList::from_vec(Vec::new(alloc)),
-        children: VarList::from_vec(vec![in alloc; VarId(1)]?),
-        lower: VarList::from_vec(vec![in alloc; VarId(1)]?),
+        children: child(alloc)?,
+        lower: child(alloc)?,
     })
 }
 
@@ -60,15 +67,19 @@ fn above(alloc: Global) -> Result<Place, Fail>
 fn cell_of(
     alloc: Global,
     machine: Box<dyn Machine + Send>,
-) -> Result<(Cell, LinkTail<Sealed>, LinkHead<Sealed>), Fail>
+) -> Result<(Cell, LinkTail<Sealed>, LinkHead<Sealed>), NoMemory>
     requires fresh { started_of (meaning machine) ≡ false }
     requires me { (private_of (meaning machine)).me ≡ 0 }
     requires near { (private_of (meaning machine)).neighbours ≡ 1 ∷ [] }
     ensures cell { IfOk result (λ made. IsCell (λ b. meaning b) made.0) }
     ensures begun { IfOk result (λ made. begun_in made.0 ≡ false) }
 {
-    let (child_tail, head) = link::<Sealed>(alloc)?;
-    let (tail, child_head) = link::<Sealed>(alloc)?;
+    let Ok((child_tail, head)) = link::<Sealed>(alloc) else {
+        return Err(NoMemory);
+    };
+    let Ok((tail, child_head)) = link::<Sealed>(alloc) else {
+        return Err(NoMemory);
+    };
     let mut tails = Vec::new(alloc);
     tails.push((VarId(1), tail))?;
     let mut heads = Vec::new(alloc);
@@ -77,7 +88,8 @@ fn cell_of(
     Ok((cell, child_tail, child_head))
 }
 
-/// Starts the root and visits it once, with this message of its child on the child's link.
+/// Starts the root and visits it once, with this message of its child on the child's link. That
+/// ends its agent.
 fn visit_once(
     rt: &impl Abort,
     alloc: Global,
@@ -96,15 +108,51 @@ fn visit_once(
             .push(Sealed::new(alloc, Envelope { stamp: 4, message })?)
             .is_ok()
     );
-    assert_eq!(rt; cell.visit(&OpenGate)?, 1);
+    assert!(rt; cell.visit(&OpenGate)? == 1);
     let entries = cell.journal().as_slice();
-    assert_eq!(rt; entries.len(), 1);
-    assert_eq!(rt; entries[0].stamp, 5);
+    assert!(rt; entries.len() == 1);
+    assert!(rt; entries[0].stamp == 5);
+    assert!(rt; cell.ended());
     Ok(())
 }
 
+/// What is seen of the root after its visit.
+#[derive(Drop)]
+struct Seen {
+    /// Whether its cell has a place.
+    has_place: bool,
+    /// Whether its cell has a table.
+    has_table: bool,
+    /// Its lower bound.
+    lower: u64,
+    /// The stamps of what it sent to its child.
+    stamps: Vec<u64>,
+}
+
+/// What is seen of an agent of the root that was visited once, with this message of its child.
+fn seen_of(
+    rt: &impl Abort,
+    alloc: Global,
+    machine: Box<dyn Machine + Send>,
+    message: Message,
+) -> Result<Seen, Fail>
+    requires fresh { started_of (meaning machine) ≡ false }
+    requires me { (private_of (meaning machine)).me ≡ 0 }
+    requires near { (private_of (meaning machine)).neighbours ≡ 1 ∷ [] }
+    requires range { IsInRange message }
+{
+    let (mut cell, mut tail, mut head) = cell_of(alloc, machine)?;
+    visit_once(rt, alloc, &mut cell, &mut tail, message)?;
+    Ok(Seen {
+        has_place: cell.place().is_some(),
+        has_table: cell.table().is_some(),
+        lower: cell.standing().lower,
+        stamps: stamps(alloc, &mut head)?,
+    })
+}
+
 /// The stamps of what the child finds on its link from the root.
-fn stamps(alloc: Global, child: &mut LinkHead<Sealed>) -> Result<Vec<u64>, Fail> {
+fn stamps(alloc: Global, child: &mut LinkHead<Sealed>) -> Result<Vec<u64>, NoMemory> {
     let mut found = Vec::with_capacity(alloc, SLOTS)?;
     child.take_all(&mut found);
     let mut stamps = Vec::new(alloc);
@@ -114,8 +162,17 @@ fn stamps(alloc: Global, child: &mut LinkHead<Sealed>) -> Result<Vec<u64>, Fail>
     Ok(stamps)
 }
 
+/// The child has visited itself alone.
+fn done(alloc: Global) -> Result<Message, NoMemory>
+    ensures { IfOk result IsInRange }
+{
+    Ok(Message::Done {
+        visited: child(alloc)?,
+    })
+}
+
 /// The table of the child: it costs nothing at the root's only value.
-fn util(alloc: Global) -> Result<Message, Fail>
+fn util(alloc: Global) -> Result<Message, NoMemory>
     ensures { IfOk result IsInRange }
 {
     Ok(Message::Util {
@@ -125,7 +182,7 @@ fn util(alloc: Global) -> Result<Message, Fail>
 }
 
 /// The bounds of the child for the root's only value: it costs 3.
-fn cost(alloc: Global) -> Result<Message, Fail>
+fn cost(alloc: Global) -> Result<Message, NoMemory>
     ensures { IfOk result IsInRange }
 {
     let mut context = AgentContext::new(alloc);
@@ -141,14 +198,9 @@ fn cost(alloc: Global) -> Result<Message, Fail>
 fn a_token_agent_ends_in_one_visit(rt: HostRuntime) -> Result<(), Fail> {
     let alloc = rt.alloc();
     let agent = TokenAgent::new(alloc, known(alloc)?)?;
-    let (mut cell, mut tail, mut head) = cell_of(alloc, Box::new(alloc, agent)?)?;
-    let message = Message::Done {
-        visited: VarList::from_vec(vec![in alloc; VarId(1)]?),
-    };
-    visit_once(&rt, alloc, &mut cell, &mut tail, message)?;
-    assert!(rt; cell.ended());
-    assert!(rt; cell.place().is_some());
-    assert_eq!(rt; stamps(alloc, &mut head)?.as_slice(), [0].as_slice());
+    let seen = seen_of(&rt, alloc, Box::new(alloc, agent)?, done(alloc)?)?;
+    assert!(rt; seen.has_place);
+    assert!(rt; seen.stamps.as_slice() == [0].as_slice());
     Ok(())
 }
 
@@ -156,11 +208,9 @@ fn a_token_agent_ends_in_one_visit(rt: HostRuntime) -> Result<(), Fail> {
 fn a_dpop_agent_ends_in_one_visit(rt: HostRuntime) -> Result<(), Fail> {
     let alloc = rt.alloc();
     let agent = DpopAgent::new(alloc, known(alloc)?, above(alloc)?)?;
-    let (mut cell, mut tail, mut head) = cell_of(alloc, Box::new(alloc, agent)?)?;
-    visit_once(&rt, alloc, &mut cell, &mut tail, util(alloc)?)?;
-    assert!(rt; cell.ended());
-    assert!(rt; cell.table().is_some());
-    assert_eq!(rt; stamps(alloc, &mut head)?.as_slice(), [5].as_slice());
+    let seen = seen_of(&rt, alloc, Box::new(alloc, agent)?, util(alloc)?)?;
+    assert!(rt; seen.has_table);
+    assert!(rt; seen.stamps.as_slice() == [5].as_slice());
     Ok(())
 }
 
@@ -168,10 +218,8 @@ fn a_dpop_agent_ends_in_one_visit(rt: HostRuntime) -> Result<(), Fail> {
 fn an_adopt_agent_ends_in_one_visit(rt: HostRuntime) -> Result<(), Fail> {
     let alloc = rt.alloc();
     let agent = AdoptAgent::new(alloc, known(alloc)?, above(alloc)?, 0)?;
-    let (mut cell, mut tail, mut head) = cell_of(alloc, Box::new(alloc, agent)?)?;
-    visit_once(&rt, alloc, &mut cell, &mut tail, cost(alloc)?)?;
-    assert!(rt; cell.ended());
-    assert_eq!(rt; cell.standing().lower, 3);
-    assert_eq!(rt; stamps(alloc, &mut head)?.last().copied(), Some(5));
+    let seen = seen_of(&rt, alloc, Box::new(alloc, agent)?, cost(alloc)?)?;
+    assert!(rt; seen.lower == 3);
+    assert!(rt; matches!(seen.stamps.last(), Some(5)));
     Ok(())
 }

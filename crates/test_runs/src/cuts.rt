@@ -5,8 +5,8 @@ ghost use Rattle.std.specs.List.{All};
 
 use crate::runs::{paw, tree_of};
 use certificate_text::Turn;
-use cut_dpop::run_cut;
-use dcop_base::{Val, VarId};
+use cut_dpop::{CutEnd, run_cut};
+use dcop_base::{NoMemory, Val, VarId};
 use dcop_edge::Gate;
 use std::alloc::Global;
 use std::sync::atomic::{AtomicU64, Ordering};
@@ -20,7 +20,7 @@ struct CountingGate {
 
 impl CountingGate {
     // A gate at which none of this many agents was visited.
-    fn new(alloc: Global, count: usize) -> Result<Self, Fail> {
+    fn new(alloc: Global, count: usize) -> Result<Self, NoMemory> {
         let mut visits = Vec::new(alloc);
         for _ in 0..count {
             visits.push(AtomicU64::new(0))?;
@@ -70,6 +70,21 @@ fn tells(turns: &[Turn], number: usize, values: &[Val], least: u64) -> bool {
     turn.values.as_slice() == values && root.cells.as_slice() == [least].as_slice()
 }
 
+// Whether the cut is 0, and two turns of six messages each found that all at 1 cost nothing.
+fn is_solved(end: &CutEnd) -> bool {
+    let one = Val(1);
+    end.cut.as_slice() == [VarId(0)].as_slice()
+        && end.turns == 2
+        && end.cost == 0
+        && end.deliveries == 12
+        && end.values.as_slice() == [one, one, one, one].as_slice()
+}
+
+// Whether these are the tables of two turns: 0 at 0, which costs 4, and 0 at 1, which costs nothing.
+fn has_two_turns(turns: &[Turn]) -> bool {
+    turns.len() == 2 && tells(turns, 0, &[Val(0)], 4) && tells(turns, 1, &[Val(1)], 0)
+}
+
 #[test]
 fn a_cut_of_the_paw_has_two_turns_whose_tables_are_kept(rt: HostRuntime) -> Result<(), Fail> {
     let alloc = rt.alloc();
@@ -78,12 +93,8 @@ fn a_cut_of_the_paw_has_two_turns_whose_tables_are_kept(rt: HostRuntime) -> Resu
     assert!(rt; are_within(paw.sizes.as_slice(), 4));
     let gate = CountingGate::new(alloc, 4)?;
     let end = run_cut(&rt, alloc, &paw, &tree, 4, 1, true, &gate)?;
-    assert!(rt; end.cut.as_slice() == [VarId(0)].as_slice());
-    assert!(rt; end.turns == 2 && end.cost == 0 && end.deliveries == 12);
-    assert!(rt; end.values.as_slice() == [Val(1), Val(1), Val(1), Val(1)].as_slice());
-    assert!(rt; end.tables.as_slice().len() == 2);
-    assert!(rt; tells(end.tables.as_slice(), 0, &[Val(0)], 4));
-    assert!(rt; tells(end.tables.as_slice(), 1, &[Val(1)], 0));
+    assert!(rt; is_solved(&end));
+    assert!(rt; has_two_turns(end.tables.as_slice()));
     assert!(rt; gate.each_has(2));
     Ok(())
 }

@@ -7,9 +7,11 @@ ghost use Rattle.pseudotree.specs.Tree.{parent_of};
 ghost use Rattle.pseudotree.specs.Pseudotree.{IsPseudotreeOf, IsLinked};
 ghost use Rattle.delivery_core.specs.Agents.{IsTreeFor};
 
-use dcop_base::{CellList, Problem, Sequence, SizeList, Table, Val, VarId, VarList, private};
+use dcop_base::{
+    CellList, NoMemory, Problem, Sequence, SizeList, Table, Val, VarId, VarList, private,
+};
 use delivery_core::{Start, replay};
-use protocol_steps::{Event, Message, Take};
+use protocol_steps::{Event, EventList, Message, Take};
 use pseudotree::{Tree, check_tree};
 use std::alloc::Global;
 use std::process::Abort;
@@ -20,17 +22,23 @@ use std::test::Fail;
 pub(crate) fn paw(alloc: Global) -> Result<Problem, Fail> {
     let mut tables = Vec::new(alloc);
     for (one, other) in [(0, 1), (0, 2), (1, 2), (1, 3)] {
-        let scope = VarList::from_vec(vec![in alloc; VarId(one), VarId(other)]?);
-        let sizes = SizeList::from_vec(vec![in alloc; 2, 2]?);
-        let cells = CellList::from_vec(vec![in alloc; 1, 2, 2, 0]?);
-        tables.push(Table::new(scope, sizes, cells)?)?;
+        let scope = [VarId(one), VarId(other)];
+        tables.push(table_of(alloc, &scope, &[2, 2], &[1, 2, 2, 0])?)?;
     }
-    let sizes = SizeList::from_vec(vec![in alloc; 2, 2, 2, 2]?);
+    let sizes = SizeList::from_slice(alloc, &[2, 2, 2, 2])?;
     Ok(Problem::new(alloc, sizes, Sequence::from_vec(tables))?)
 }
 
+// The table with this scope, these sizes and these cells.
+fn table_of(alloc: Global, scope: &[VarId], sizes: &[u16], cells: &[u64]) -> Result<Table, Fail> {
+    let scope = VarList::from_slice(alloc, scope)?;
+    let sizes = SizeList::from_slice(alloc, sizes)?;
+    let cells = CellList::from_vec(Vec::from_slice(alloc, cells)?);
+    Ok(Table::new(scope, sizes, cells)?)
+}
+
 // Whether a variable is the root or a neighbour of its parent.
-fn is_tied(alloc: Global, problem: &Problem, tree: &Tree, var: VarId) -> Result<bool, Fail>
+fn is_tied(alloc: Global, problem: &Problem, tree: &Tree, var: VarId) -> Result<bool, NoMemory>
     requires tree { IsPseudotreeOf problem.now tree.now }
     requires within { var < length problem.now.sizes }
     ensures { IfOk result (λ tied. tied ≡ true
@@ -44,7 +52,7 @@ fn is_tied(alloc: Global, problem: &Problem, tree: &Tree, var: VarId) -> Result<
 }
 
 // These parents; a number that is no variable means none.
-fn parents_of(alloc: Global, above: &[u32]) -> Result<Vec<Option<VarId>>, Fail>
+fn parents_of(alloc: Global, above: &[u32]) -> Result<Vec<Option<VarId>>, NoMemory>
     ensures sized { IfOk result (λ parents. length parents.items ≡ length above.now) }
     ensures known { IfOk result (λ parents.
         (v u : ℕ) → parent_at parents.items v ≡ Some u → u < length above.now) }
@@ -84,12 +92,14 @@ pub(crate) fn tree_of(
     Ok(tree)
 }
 
-// One event with these takes.
-fn event(alloc: Global, agent: u32, takes: &[Take]) -> Result<Event, Fail> {
-    Ok(Event {
-        agent: VarId(agent),
-        takes: Sequence::from_vec(takes.to_vec(alloc)?),
-    })
+// One event of this agent for each of these takes.
+fn events_of(alloc: Global, agent: VarId, takes: &[Take]) -> Result<EventList, NoMemory> {
+    let mut events = Vec::new(alloc);
+    for take in takes {
+        let takes = Sequence::from_vec(Vec::from_slice(alloc, &[*take])?);
+        events.push(Event { agent, takes })?;
+    }
+    Ok(Sequence::from_vec(events))
 }
 
 // This many messages of a sender.
@@ -98,6 +108,26 @@ fn take(from: u32, count: u32) -> Take {
         from: VarId(from),
         count,
     }
+}
+
+// This variable at its first value.
+fn zero(var: u32) -> (VarId, Val) {
+    (VarId(var), Val(0))
+}
+
+// Whether a message is a COST with this context and these bounds.
+fn is_cost(message: Option<&Message>, pairs: &[(VarId, Val)], bounds: (u64, Option<u64>)) -> bool {
+    let Some(
+        Message::Cost {
+            context,
+            lower,
+            upper,
+        },
+    ) = message
+    else {
+        return false;
+    };
+    context.pairs() == pairs && *lower == bounds.0 && *upper == bounds.1
 }
 
 // Checks the COST that 2 has sent to 1 in this graph after this many messages of each of these
@@ -109,41 +139,20 @@ fn see_cost(
     pairs: &[(VarId, Val)],
     bounds: (u64, Option<u64>),
 ) -> Result<(), Fail> {
-    let mut events = Vec::new(alloc);
-    for one in takes {
-        events.push(event(alloc, 2, &[*one])?)?;
-    }
+    let events = events_of(alloc, VarId(2), takes)?;
     let paw = paw(alloc)?;
     let tree = tree_of(rt, alloc, &paw, &[4, 0, 1, 1])?;
-    let state = replay(
-        alloc,
-        &paw,
-        Start::Adopt(tree, 0),
-        &Sequence::from_vec(events),
-    )?;
+    let state = replay(alloc, &paw, Start::Adopt(tree, 0), &events)?;
     assert!(rt; paw.sizes.as_slice().len() == 4);
-    assert!(rt;
-        match state.last_sent(VarId(2), VarId(1)) {
-            Some(
-                Message::Cost {
-                    context,
-                    lower,
-                    upper
-                }
-            ) => { context.pairs() == pairs && (*lower, *upper) == bounds }
-            _ => false,
-        }
-    );
+    assert!(rt; is_cost(state.last_sent(VarId(2), VarId(1)), pairs, bounds));
     Ok(())
 }
 
 #[test]
 fn a_cost_in_the_paw_has_an_upper_bound_once_all_is_known(rt: HostRuntime) -> Result<(), Fail> {
     let alloc = rt.alloc();
-    let zero = |var| (VarId(var), Val(0));
+    let takes = [take(1, 2), take(0, 1)];
     see_cost(&rt, alloc, &[], &[], (0, None))?;
     see_cost(&rt, alloc, &[take(1, 2)], &[zero(1)], (1, None))?;
-    let takes = [take(1, 2), take(0, 1)];
-    see_cost(&rt, alloc, &takes, &[zero(0), zero(1)], (2, Some(2)))?;
-    Ok(())
+    see_cost(&rt, alloc, &takes, &[zero(0), zero(1)], (2, Some(2)))
 }
