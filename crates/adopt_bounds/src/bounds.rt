@@ -78,7 +78,7 @@ impl Bounds {
         })
     }
 
-    /// The children, in the order of the entries of a row.
+    /// The children, in the order in which each own value has their entries.
     pub fn children(&self) -> &VarList
         ensures { result.now ≡ self.now.children }
     {
@@ -149,9 +149,10 @@ impl Bounds {
         );
     }
 
-    /// Allots the goal to the children for an own value. Their shares are raised, each to no more
-    /// than its upper bound, or lowered, each to no less than its lower bound, in the order of the
-    /// children, until they add up to the goal or no share can move further.
+    /// Divides the cost `goal` among the children, as their shares of the threshold for an own
+    /// value. The shares are raised, each to no more than its upper bound, or lowered, each to no
+    /// less than its lower bound, in the order of the children, until they add up to `goal` or no
+    /// share can move further.
     pub fn allot(&mut self, d: Val, goal: u64)
         requires value { d < length self.old.rows }
         requires goal { goal ≤ amount_limit }

@@ -4,7 +4,8 @@ use Rattle.std.specs.List.{sum_by}
 use Rattle.adopt_context.specs.Context.{Context, part_of}
 use Rattle.adopt_context.specs.Bounds.{Entry, blank}
 
--- an entry, or the blank entry if the entry's context is not part of the context x
+-- an entry; or, if its context is not part of the context x, the blank entry, in which nothing is
+-- known
 abbrev pub kept : Context → Entry → Entry
 kept x e = if part_of e.context x then e else blank
 

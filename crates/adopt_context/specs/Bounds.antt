@@ -23,7 +23,7 @@ row_at rows d = slice_index_or rows d []
 abbrev pub entry_at : List (List Entry) → ℕ → ℕ → Entry
 entry_at rows d k = slice_index_or (row_at rows d) k blank
 
--- a number, cut off at the cap
+-- a number, or amount_limit, which is called the cap, if the number is above it
 abbrev pub cap : ℕ → ℕ
 cap x = min x amount_limit
 
@@ -42,7 +42,7 @@ abbrev pub upper_sum : List Entry → Option ℕ
 upper_sum [] = Some 0
 upper_sum (e ∷ es) = plus_bound e.upper (upper_sum es)
 
--- an upper bound, cut off at the cap
+-- an upper bound, or the cap if the bound is above it
 abbrev pub capped : Option ℕ → Option ℕ
 capped None = None
 capped (Some x) = Some (cap x)

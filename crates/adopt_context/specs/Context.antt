@@ -26,7 +26,7 @@ abbrev pub put : Context → ℕ → ℕ → Context
 put [] v a = (v, a) ∷ []
 put (p ∷ ps) v a = if v == p.0 then (v, a) ∷ ps else (if nat_lt v p.0 then (v, a) ∷ p ∷ ps else p ∷ put ps v a)
 
--- whether a variable may have the value a, given its value so far or none
+-- whether there is no value, or the value equals a
 abbrev pub may_be : Option ℕ → ℕ → Bool
 may_be None a = true
 may_be (Some b) a = b == a

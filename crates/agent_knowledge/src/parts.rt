@@ -11,9 +11,9 @@ use dcop_base::{NoMemory, Private, Problem, Sequence, VarId, VarList, sizes_of};
 use std::alloc::Global;
 use std::mem;
 
-/// What each agent knows without the costs, in the variables' order: its size, and its neighbours
-/// by tables and joints with their sizes, but no tables. Takes time for the pairs of each scope,
-/// the joints and the neighbours.
+/// What each agent knows without the costs, in the variables' order: its size, the variables that
+/// share a table or a joint with it, and their sizes, but no tables. Takes time for the pairs of
+/// each scope, the joints and the neighbours.
 ///
 /// # Errors
 ///
@@ -79,9 +79,9 @@ pub fn add_tables(alloc: Global, problem: &Problem, known: &mut [Private]) -> Re
     Ok(())
 }
 
-/// What each agent knows, in the variables' order: its size, its neighbours by tables and joints
-/// with their sizes, and the tables that name its variable. Takes the time of [`acquaintances`]
-/// plus that for the cells of tables that are not shared.
+/// What each agent knows, in the variables' order: its size, the variables that share a table or a
+/// joint with it, their sizes, and the tables that name its variable. Takes the time of
+/// [`acquaintances`] plus that for the cells of tables that are not shared.
 ///
 /// # Errors
 ///

@@ -26,9 +26,9 @@ pub record HasGoneOn (before after : CellState) : Type 0 where
   pub later : IsLater before deeds after
 
 module _ {X : Type 0} {F : X → Type 0} where
-  -- a visit of the cell from this state has failed with this fault: its agent is still the one that
-  -- was made, its journal is as it was, and if the fault is that stamps ran out, the visit has found
-  -- the greatest stamp
+  -- a visit of the cell from this state has failed with this fault: what its agent was made from
+  -- has not changed, its journal is as it was, and if the fault is that stamps ran out, the visit
+  -- has found the greatest stamp
   pub record HasFailedVisit (meaning : DynBox X Global F → View) (fault : VisitFault) (before : CellState) (after : Cell X F) : Type 0 where
     pub failed : fault_in after ≡ Some fault
     pub origin : made_of (state_of meaning after).view ≡ made_of before.view
@@ -66,7 +66,7 @@ module _ {X : Type 0} {F : X → Type 0} where
   failures cells = sum_by failure cells
 
   -- cells whose playing a fault has cut short; some may have failed before. Each has gone on by R,
-  -- and all together took at most `limit` messages for each of them. Since then each has not
+  -- and all together took at most `limit` messages for each of them. Since then each cell has not
   -- changed, or a visit of it has failed. At most `most_failed` more have failed than before.
   pub record AreCutShort (meaning : DynBox X Global F → View) (fault : VisitFault) (R : CellState → CellState → Type 0) (limit most_failed : ℕ) (before after : List (Cell X F)) : Type 0 where
     pub stood : List (Cell X F)
@@ -75,10 +75,10 @@ module _ {X : Type 0} {F : X → Type 0} where
     pub came : EachBecomes (StaysOrFails meaning fault) stood after
     pub few : failures after ≤ failures before + most_failed
 
-  -- the same by their states, of cells of which none had failed. R holds of each cell's state
-  -- before and of a later state; up to these states all cells together took at most `limit`
-  -- messages for each of them; since then each cell has not changed, or a visit of it has failed;
-  -- at most `most_failed` cells have failed.
+  -- the same by their states, of cells of which none had failed: for each cell, R holds of its state
+  -- before and of a later state; up to these states the cells together took at most `limit` times as
+  -- many messages as there are cells; since then each cell has not changed, or a visit of it has
+  -- failed; at most `most_failed` cells have failed
   pub record ArePartlyPlayed (meaning : DynBox X Global F → View) (fault : VisitFault) (R : CellState → CellState → Type 0) (limit most_failed : ℕ) (before : List CellState) (after : List (Cell X F)) : Type 0 where
     pub stood : List CellState
     pub gone : EachAre R before stood
@@ -94,7 +94,8 @@ module _ {X : Type 0} {F : X → Type 0} where
     pub less : total before < budget
     pub broken : ArePartlyPlayed meaning fault IsMoved sprint_limit workers before after
 
-  -- the start of a cell has failed, since memory ran out: its agent is still the one that was made
+  -- the start of a cell has failed, since memory ran out; what its agent was made from has not
+  -- changed
   pub record HasFailedStart (meaning : DynBox X Global F → View) (before after : Cell X F) : Type 0 where
     pub failed : fault_in after ≡ Some NoMemory
     pub begun : begun_in after ≡ true

@@ -82,11 +82,12 @@ module _ {X : Type 0} {F : X → Type 0} where
         → IsVisitedOnce meaning a b ⊎ ((b ≡ a) × (all ≡ true → (alone ≡ true) × KnowsOfNone meaning a) × (all ≡ false → IsUnmarked words i)
         × (sent_to meaning i (found_at i before now) ≡ sent_to meaning i before))
 
-  -- a turn from `before` to `after`, which have as many cells. It follows a turn from `earlier` to
-  -- `before`; the first turn follows none, and `earlier` is then `before`. Each cell was visited
-  -- once, unless it had ended. Or the cell was passed over, which happens only in a part that is
-  -- `alone`, since it has all cells: the cell knew of nothing, and was sent nothing since the turn
-  -- before came to its place (in the first turn: since that turn began).
+  -- a turn from `before` to `after`, which have as many cells. The turn before it, if there was
+  -- one, led from `earlier` to `before`; otherwise `earlier` is `before`. Each cell was visited
+  -- once, unless it had ended; or it was passed over. That happens only to a cell of a part that is
+  -- `alone`, which has all cells, and only if the cell knew of nothing and was sent nothing from
+  -- when the turn before came to its place (in the first turn: from when that turn began) until
+  -- this turn came there.
   pub record PassesNone (meaning : DynBox X Global F → View) (alone : Bool) (earlier before after : List (Cell X F)) : Type 0 where
     pub size : length after ≡ length before
     pub each : (i : ℕ) (a b : Cell X F) → slice_get before i ≡ Some a → slice_get after i ≡ Some b

@@ -20,7 +20,7 @@ use std::thread::Threads;
 /// The most turns of a part in a round.
 const MOST_TURNS: usize = 32;
 
-/// The most turns in the code are those of the definitions.
+/// The greatest number of turns in a round is the same in the code and in the definitions.
 pub fn turns_agree()
     ensures { MOST_TURNS ≡ most_events }
 {}

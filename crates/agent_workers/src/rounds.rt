@@ -69,7 +69,7 @@ pub fn round<R: Threads + Sync, G: Gate>(
     play_round(rt, cells.as_mut_slice(), nodes, workers, gate)
 }
 
-/// [`round`] on a slice.
+/// Does what [`round`] does, on a `&mut [Cell]` instead of a list.
 pub fn play_round<R: Threads + Sync, G: Gate>(
     rt: &R,
     cells: &mut [Cell],

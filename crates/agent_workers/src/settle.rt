@@ -13,8 +13,8 @@ use crate::waiting::{MESSAGE_WORK, Waiting, work_of};
 use agent_cells::Cell;
 use dcop_base::MAX_VARIABLES;
 
-/// Settles every link inside a node, of `nodes` nodes. Returns what may wait for parts of `size`
-/// cells.
+/// Settles every link between two agents of the same node, for `nodes` nodes. Returns what may wait
+/// for parts of `size` cells.
 pub fn settle_all(cells: &mut [Cell], nodes: u32, size: usize) -> Waiting
     requires size { 0 < size }
     requires joined { AreCellsJoined (λ b. meaning (b.vtable, b.value)) nodes cells.old }

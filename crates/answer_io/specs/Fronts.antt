@@ -11,12 +11,14 @@ use Rattle.solve_report.specs.declared.answer.Answer.{Answer}
 use Rattle.answer_io.specs.Showing.{refused_by}
 use Rattle.answer_io.specs.InputTold.{declared_of, wcsp_refused_by}
 
--- what an input is read as, given what its problem text is read as
+-- what is declared at the front of an input, or the answer that refuses it, given the result of
+-- reading it as problem text
 abbrev pub own_front : Result Parts Fault → Result Parts Answer
 own_front (Ok parts) = Ok parts
 own_front (Err fault) = Err (refused_by fault)
 
--- what an input is read as, given what its WCSP text is read as
+-- what is declared at the front of an input, or the answer that refuses it, given the result of
+-- reading it as WCSP text
 abbrev pub wcsp_front : List ℕ → Result (Network × ℕ) WcspFault → Result Parts Answer
 wcsp_front bytes (Ok read) = Ok (record { declared = declared_of read.0; used = read.1 })
 wcsp_front bytes (Err fault) = Err (wcsp_refused_by bytes fault)

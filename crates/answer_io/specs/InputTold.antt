@@ -22,8 +22,8 @@ pub record DeclaredInput : Type 0 where
 abbrev pub told_of : TextFile → Option ℕ → DeclaredInput
 told_of file bar = record { declared = declared_by file; bar = bar }
 
--- what a network declares: its sizes and raised tables, variables named by their numbers, version 2
--- and goal min
+-- the network of a WCSP text, as what a problem text declares: its sizes and raised tables,
+-- variables named by their numbers, version 2 and goal min
 abbrev pub declared_of : Network → Declared
 declared_of w = record {
   version = 2;
@@ -34,7 +34,7 @@ declared_of w = record {
   tables = tables w;
 }
 
--- this network, as a problem that was read
+-- the network of a WCSP text, as a problem that was read
 abbrev pub told_by : Network → DeclaredInput
 told_by w = record { declared = declared_of w; bar = Some (bar w) }
 

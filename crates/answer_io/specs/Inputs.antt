@@ -30,7 +30,8 @@ line_of_first bytes (word ∷ later) = Some (line_at bytes word.after)
 abbrev pub further_line : List ℕ → ℕ → Option ℕ
 further_line bytes used = line_of_first bytes (words (drop used bytes))
 
--- what a network declares; or, if a further word is on this line, the answer that refuses the text
+-- what the network of a WCSP text declares; or, if a further word is on this line, the answer that
+-- refuses the text
 abbrev pub unless_further : Network → Option ℕ → Result DeclaredInput Answer
 unless_further w None = Ok (told_by w)
 unless_further w (Some line) = Err (WcspText line (number_of_kind AfterEnd) (number_of_problem AfterEnd))

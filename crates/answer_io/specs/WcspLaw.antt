@@ -8,8 +8,9 @@ use Rattle.wcsp_text.specs.Problems.{bar}
 use Rattle.wcsp_text.specs.Values.{IsValued, HasLeastValue}
 use Rattle.answer_io.specs.InputTold.{declared_of}
 
--- in a file that declares what a network does, costs give the WCSP values by the bar, and an
--- optimum has the least value
+-- if a file declares what the network of a WCSP text does, a cost below the bar is the WCSP value
+-- of its assignment, a cost from the bar on means the value top, and an optimum has the least WCSP
+-- value
 abbrev pub WcspFilesHaveValues : Type 0
 WcspFilesHaveValues = (w : Network) (file : TextFile) → IsProblem file.problem → declared_by file ≡ declared_of w
     → IsValued w file.problem (bar w) × HasLeastValue w file.problem

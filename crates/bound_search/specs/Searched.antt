@@ -26,7 +26,8 @@ pub record IsSpent (budget : ℕ) (known : Known) : Type 0 where
 abbrev pub EndsSo : ℕ → ℕ → Known → Ended → Type 0
 EndsSo error budget known ended = ((ended.spent ≡ false) × HasSearchEnded error known ended.lower) ⊎ ((ended.spent ≡ true) × IsSpent budget known)
 
--- the most nodes in all after a search: the budget, or the nodes before it if these are more; if nothing is known before it, also the nodes before it and one for each variable
+-- the most nodes in all after a search, which is the greatest of these: the budget; the nodes
+-- before the search; and, if nothing was known before it, those nodes plus one for each variable
 abbrev pub most_nodes : ℕ → ℕ → Option ℕ → ℕ → ℕ
 most_nodes budget count None before = max budget (before + count)
 most_nodes budget count (Some best) before = max budget before

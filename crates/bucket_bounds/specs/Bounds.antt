@@ -9,7 +9,8 @@ use Rattle.shared_costs.specs.Tables.{IsTableOver}
 use Rattle.bucket_bounds.specs.Rest.{deep_cost}
 use Rattle.bucket_bounds.specs.declared.bucket.Bucket.{Bucket}
 
--- the bounds of depth p, for the buckets from p on: those of the next depth that do not name variable p, and what the bucket of p sends
+-- the bounds of depth p, which are tables, for the buckets of the variables from p on: the bounds
+-- of depth p + 1 that do not name variable p, and the tables that the bucket of p sends
 abbrev pub bounds_from : ℕ → List Bucket → List CostTable
 bounds_from p [] = []
 bounds_from p (bucket ∷ later) = filter (λ t. not (has t.scope p)) (bounds_from (p + 1) later) ++ bucket.sent

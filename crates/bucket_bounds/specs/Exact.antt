@@ -12,7 +12,8 @@ pub record IsUnparted (bucket : Bucket) : Type 0 where
   pub whole : bucket.groups ≤ 1
   pub kept : bucket.replaced ≡ 0
 
--- the bounds of each depth sum to exactly the rest
+-- the bounds of each depth sum to exactly the rest: the least sum of the tables of that depth and
+-- more
 abbrev pub AreExact : List ℕ → List (List CostTable) → List Bucket → Type 0
 AreExact sizes depths buckets = (p : ℕ) (value : ℕ → ℕ) → p ≤ length sizes → AreValues sizes value → IsRest sizes depths p value (bound_at p buckets value)
 

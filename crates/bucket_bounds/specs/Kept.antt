@@ -15,9 +15,10 @@ least (x ∷ xs) = fold min x xs
 abbrev pub least_cost : List CostTable → ℕ
 least_cost ts = sum_by (λ t. least t.cells) ts
 
--- what is sent of projections, with room for this many cells: those that name variables, unchanged,
--- except the largest ones, none of which would fit as well; the least cells of these, and the only
--- cells of those that name no variable, are added up
+-- what is sent of projections, which are tables without a bucket's variable, with room for this
+-- many cells: `sent` are those that name variables, unchanged, except the `replaced` largest, none
+-- of which fits beside them; `fixed` is the sum of the least cells of all others, or count_limit if
+-- that is less
 pub record AreProjectionsKept (room : ℕ) (projections sent : List CostTable) (fixed replaced : ℕ) : Type 0 where
   pub closed : List CostTable
   pub large : List CostTable

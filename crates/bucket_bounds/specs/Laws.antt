@@ -11,17 +11,21 @@ use Rattle.bucket_bounds.specs.Made.{AreMade}
 use Rattle.bucket_bounds.specs.MiniBuckets.{AreMiniBuckets}
 use Rattle.bucket_bounds.specs.declared.bucket.Bucket.{Bucket}
 
--- if each bucket sends at most what its tables and the bounds that come to it cost, the bounds of each depth sum to at most the rest, with any groups
+-- if each bucket sends at most what its tables and the bounds that come to it cost, the bounds of
+-- each depth sum to at most the rest, whatever the groups are into which a bucket parts its tables
 abbrev pub BoundsAreAtMostTheRest : Type 0
 BoundsAreAtMostTheRest = (sizes : List ℕ) (buckets : List Bucket) → AreMade sizes 0 buckets
     → (p : ℕ) (value : ℕ → ℕ) (least : ℕ) → IsRest sizes (tables_in buckets) p value least → bound_at p buckets value ≤ least
 
--- the bounds of mini-buckets sum at each depth to at most the rest: with any groups, with any sharing of costs among their joined tables, and with any bounds replaced because cells are too few
+-- the bounds of mini-buckets sum at each depth to at most the rest, whatever the groups are into
+-- which the buckets part their tables, however costs are shared among the joined tables, and
+-- whatever bounds are replaced because cells are too few
 abbrev pub MiniBucketsAreAtMostTheRest : Type 0
 MiniBucketsAreAtMostTheRest = (sizes : List ℕ) (limit cells : ℕ) (buckets : List Bucket) → AreMiniBuckets sizes limit cells 0 buckets
     → (p : ℕ) (value : ℕ → ℕ) (least : ℕ) → IsRest sizes (tables_in buckets) p value least → bound_at p buckets value ≤ least
 
--- if no mini-bucket is parted and none of its bounds is replaced, the bounds sum at each depth to exactly the rest
+-- if no bucket is parted into several groups, and no bound is replaced by its least cell, the
+-- bounds of each depth sum to exactly the rest
 abbrev pub UnpartedMiniBucketsAreExact : Type 0
 UnpartedMiniBucketsAreExact = (sizes : List ℕ) (limit cells : ℕ) (buckets : List Bucket) → AreMiniBuckets sizes limit cells 0 buckets → AreExactUnparted sizes (tables_in buckets) buckets
 

@@ -19,7 +19,8 @@ AreTooWide sizes limit ts = (vars : List ℕ) → IsScopeOf ts vars → limit < 
 abbrev pub IsPartedDuly : List ℕ → ℕ → Bucket → Type 0
 IsPartedDuly sizes limit bucket = 2 ≤ bucket.groups → AreTooWide sizes limit (bucket.tables ++ bucket.came)
 
--- a bucket of variable p, a bound of which is replaced only if a table over its other variables has more cells than the room
+-- a bucket of variable p: a bound of it is replaced only if a table over all other variables that
+-- are named in its tables and in the bounds that came to it has more cells than the room
 abbrev pub IsReplacedDuly : List ℕ → ℕ → ℕ → Bucket → Type 0
 IsReplacedDuly sizes room p bucket = 1 ≤ bucket.replaced → (others : List ℕ) → IsScopeOf (bucket.tables ++ bucket.came) (p ∷ others) → room < cells_over sizes others
 

@@ -1,4 +1,4 @@
-//! Lower bounds on what the rest of an assignment costs, by mini-buckets (Dechter and Rish,
+//! Lower bounds on what completing an assignment costs, by mini-buckets (Dechter and Rish,
 //! Mini-buckets: a general scheme for bounded inference, Journal of the ACM 50, 2003).
 //!
 //! Variables are eliminated from the last one to the first. The bucket of a variable takes the

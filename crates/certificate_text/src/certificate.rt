@@ -54,7 +54,7 @@ pub struct Util {
 /// UTIL tables.
 pub type UtilList = Sequence<Util>;
 
-/// The tables of the first of these turns; none if there is no turn.
+/// The tables of the first of these turns of a cut; none if there is no turn.
 pub fn first_tables(turns: &[Turn]) -> &[Util]
     ensures { result.now ≡ first_tables turns.now }
 {

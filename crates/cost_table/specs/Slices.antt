@@ -7,7 +7,8 @@ use Rattle.dcop_base.specs.Whole.{IsTableOf}
 use Rattle.cost_table.specs.Cells.{cell_of, place_in, IsTableBy}
 use Rattle.cost_table.specs.Runs.{AreFewer}
 
--- a list after each of these places has received the value at the same index
+-- a list in which these places have received these values: the first place the first value, the
+-- second the second, and so on
 abbrev pub put_in : List ℕ → List ℕ → List ℕ → List ℕ
 put_in [] values xs = xs
 put_in (p ∷ ps) [] xs = xs

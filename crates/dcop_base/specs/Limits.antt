@@ -53,7 +53,7 @@ joined_limit = 1048576
 abbrev pub sent_limit : ℕ
 sent_limit = 4194304
 
--- the most turns of a cut
+-- the most turns of a cut, one for each list of values of the cut variables
 abbrev pub turn_limit : ℕ
 turn_limit = 65536
 

@@ -2,8 +2,8 @@
 use Rattle.std.specs.Prelude.{◌≡◌, ℕ, ◌<◌, List, length, slice_index}
 use Rattle.dcop_base.specs.Table.{AreWithin}
 
--- sizes and values of `count` variables, each value below its size; for variable k, any pair that
--- `tells` allows is its size and its value
+-- `count` sizes, and as many values, each below its size; if `tells` holds of a place k below
+-- `count` and of a pair of numbers, this pair is the size and the value of variable k
 pub record AreDigits (tells : ℕ → ℕ × ℕ → Type 0) (count : ℕ) (sizes : List ℕ) (values : List ℕ) : Type 0 where
   pub counted : length sizes ≡ count
   pub within : AreWithin sizes values

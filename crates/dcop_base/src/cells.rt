@@ -32,7 +32,8 @@ impl Model for CellList {
 }
 
 impl CellList {
-    /// The list of these cells. It keeps their memory and allocates nothing.
+    /// The list of these cells, which no other list shares. It keeps their memory and allocates
+    /// nothing.
     pub fn from_vec(cells: Vec<u64>) -> Self
         ensures { result ≡ cells.items }
     {
@@ -41,7 +42,7 @@ impl CellList {
         }
     }
 
-    /// The list of these cells. Its clones share its memory.
+    /// The list of these cells, whose clones share its memory.
     ///
     /// # Errors
     ///

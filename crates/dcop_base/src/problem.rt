@@ -140,8 +140,8 @@ fn tables_are_whole(tables: &[Table])
     }
 }
 
-/// Every problem is within its limits, and its tables and joints are whole. Does nothing; its
-/// contract is the law.
+/// Every problem is within the limits, each of its tables has a cell for each combination of values
+/// of its variables, and its joints make it connected. Does nothing; its contract is the law.
 pub fn problem_is_whole(problem: &Problem)
     ensures { IsProblem problem.now }
 {

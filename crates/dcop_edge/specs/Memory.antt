@@ -3,7 +3,8 @@ use Rattle.std.specs.Prelude.{ℕ, ◌+◌, Bool, List, ◌++◌, length, Option
 use Rattle.std.specs.List.{list_any}
 use Rattle.dcop_edge.specs.Faults.{one_more}
 
--- the numbers of the calls that fail, counted from 0; the number of calls so far; and how many of these failed
+-- the calls of something in memory, such as a source: which of them fail, each by its number,
+-- counted from 0; how many there were so far; and how many of these failed
 pub record Calls : Type 0 where
   pub fails : List ℕ
   pub came : ℕ

@@ -1,7 +1,8 @@
 -- What a sink holds, if the bytes written to it are known.
 use Rattle.std.specs.Prelude.{◌≡◌, ◌<◌, ◌≤◌, ℕ, List, ◌++◌, length, take, Option, Some, None}
 
--- more bytes were written: if the bytes of the sink are known afterwards, they were known at the start, and the new ones come after them
+-- more bytes were written to a sink, of which it may be unknown what it holds (None): if this is
+-- known afterwards, it was known before, and the new bytes come after the old ones
 abbrev pub Adds : Option (List ℕ) → List ℕ → Option (List ℕ) → Type 0
 Adds before more None = Unit {0}
 Adds None more (Some now) = ⊥

@@ -28,8 +28,8 @@ impl Model for MemorySource {
 }
 
 impl MemorySource {
-    /// A source that gives these bytes. Its calls with the numbers in `fails`, counted from 0,
-    /// fail. Allocates nothing.
+    /// A source that gives these bytes and fails at the calls with the numbers in `fails`, counted
+    /// from 0. Allocates nothing.
     pub fn new(bytes: Vec<u8>, fails: Vec<u64>) -> Self
         ensures { result ≡ record { left = bytes.items; gave = []; calls = no_calls fails.items } }
     {

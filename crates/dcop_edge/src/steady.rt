@@ -30,7 +30,7 @@ impl Model for SteadySource {
 }
 
 impl SteadySource {
-    /// A source that gives these bytes. Allocates nothing.
+    /// A source that gives these bytes and never fails. Allocates nothing.
     pub fn new(bytes: Vec<u8>) -> Self
         ensures { result ≡ record { left = bytes.items; gave = [] } }
     {
@@ -113,7 +113,7 @@ impl Model for SteadySink {
 }
 
 impl SteadySink {
-    /// A sink with no room. Allocates nothing.
+    /// A sink with no room: it keeps none of the bytes that are written to it. Allocates nothing.
     pub fn new(alloc: Global) -> Self
         ensures { result ≡ record { held = Some []; finished = false; room = 0 } }
     {

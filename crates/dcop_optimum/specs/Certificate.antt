@@ -52,7 +52,8 @@ pub record IsTableCertificate (p : Dcop) (parents : List (Option ℕ)) (scopes c
   pub tables : AreLowerTables p paths scopes cells
   pub root_cost : (root : ℕ) → IsRoot paths root → slice_index_or cells root [] ≡ cost p values ∷ []
 
--- each cell of lower tables is at most the subtree optimum at its values, however the tables were made
+-- lower tables are tables of lower bounds: each cell is at most the subtree optimum at its values,
+-- however the tables were made
 abbrev pub LowerTablesBoundOptima : Type 0
 LowerTablesBoundOptima = (p : Dcop) (paths scopes cells : List (List ℕ)) → IsProblem p → IsPseudotree p paths → AreLowerTables p paths scopes cells
     → (i : ℕ) (value : ℕ → ℕ) (m : ℕ) → i < length paths → IsSubtreeOptimum p paths i value m → cell_with (util_of p scopes cells i) value ≤ m

@@ -23,7 +23,8 @@ pub record Encloses (p : Dcop) (paths : List (List ℕ)) (i : ℕ) (given : ℕ 
   pub high : (value : ℕ → ℕ) → AreValuesAbove p paths i value → AreGivenAbove paths i given value
       → (m : ℕ) → IsSubtreeOptimum p paths i value m → IsAtMost m upper
 
--- bounds that enclose the root of a pseudotree enclose the optimum of the problem
+-- if the subtree optimum of the root of a pseudotree is between two bounds, so is the optimum of
+-- the problem
 abbrev pub RootBoundsEncloseOptima : Type 0
 RootBoundsEncloseOptima = (p : Dcop) (paths : List (List ℕ)) (root : ℕ) (given : ℕ → Option ℕ) (lower : ℕ) (upper : Option ℕ) → IsProblem p → IsPseudotree p paths → IsRoot paths root
     → Encloses p paths root given lower upper → (m : ℕ) → IsOptimum p m → (lower ≤ m) × IsAtMost m upper

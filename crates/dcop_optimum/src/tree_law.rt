@@ -32,12 +32,14 @@ pub fn separators_decompose()
     ensures { SeparatorsDecompose }
 {}
 
-/// Bounds that enclose the root of a pseudotree enclose the optimum of the problem.
+/// If the subtree optimum of the root of a pseudotree is between two bounds, so is the optimum of
+/// the problem.
 pub fn root_bounds_enclose_optima()
     ensures { RootBoundsEncloseOptima }
 {}
 
-/// Every pseudotree of a problem has exactly one first optimum.
+/// Every pseudotree of a problem has exactly one first optimum: the optimal assignment whose
+/// values, read in preorder, come first.
 pub fn first_optima_of_trees_are_one()
     ensures { FirstOptimaOfTreesAreOne }
 {}
@@ -54,8 +56,8 @@ pub fn tables_on_paths_are_own()
     ensures { TablesOnPathsAreOwn }
 {}
 
-/// Each cell of a certificate's lower tables is at most the subtree optimum, however the tables
-/// were made.
+/// The tables of a certificate are lower bounds: each cell is at most the subtree optimum, however
+/// the tables were made.
 pub fn lower_tables_bound_optima()
     ensures { LowerTablesBoundOptima }
 {}

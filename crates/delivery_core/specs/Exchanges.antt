@@ -8,7 +8,7 @@ use Rattle.protocol_steps.specs.Effect.{event_sends}
 use Rattle.delivery_core.specs.State.{SeatView, CoreView}
 use Rattle.delivery_core.specs.Shown.{ShowsNetwork, IsCore}
 
--- in this event of a core state the agent takes these letters and sends these parcels
+-- when this event happens in a core state, its agent takes these letters and sends these parcels
 pub record Exchanges (s : CoreView) (e : Event) (took : List (ℕ × Message)) (sent : List (ℕ × Message)) : Type 0 where
   pub letters : (p : Dcop) (net : Network) → IsCore p net s → took ≡ batch net.desks e.agent e.takes
   pub parcels : (p : Dcop) (net : Network) → IsCore p net s → sent ≡ event_sends net e

@@ -16,7 +16,7 @@ pub struct Exchange {
 }
 
 impl Exchange {
-    /// An exchange in which nothing is taken and nothing is sent.
+    /// The record of an event in which nothing is taken and nothing is sent yet.
     pub fn new(alloc: Global) -> Exchange
         ensures took { result.took.items ≡ [] }
         ensures sent { result.sent.items ≡ [] }

@@ -249,8 +249,8 @@ impl CoreState {
         Ok(())
     }
 
-    /// Plays an event as [`CoreState::happen`] does. If the event is lawful, the content of
-    /// `exchange` is replaced by what its agent took and sent.
+    /// Plays an event as [`CoreState::happen`] does, and tells what its agent took and sent. If the
+    /// event is lawful, this replaces the content of `exchange`.
     ///
     /// # Errors
     ///

@@ -32,7 +32,7 @@ abbrev pub turns : Network → List ℕ → List Event
 turns net [] = []
 turns net (i ∷ is) = turn net i ++ turns (after net (turn net i)) is
 
--- the events of a round: the turns of all agents in ascending order
+-- the events of a round of one turn: each agent has its turn once, in ascending order
 abbrev pub round : Network → List Event
 round net = turns net (range_with_len 0 (length net.views))
 

@@ -20,8 +20,8 @@ use std::alloc::Global;
 /// The most turns of a round.
 const MOST_TURNS: usize = 32;
 
-/// The most turns of a round in the code are the most events of an agent in a round in the
-/// definitions.
+/// The greatest number of turns in a round of the code is the greatest number of an agent's events
+/// in a round of the definitions.
 pub fn turns_agree()
     ensures { MOST_TURNS ≡ most_events }
 {}

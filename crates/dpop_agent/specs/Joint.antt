@@ -8,7 +8,8 @@ use Rattle.dcop_base.specs.Limits.{joined_limit}
 use Rattle.protocol_steps.specs.DpopJoin.{can_join}
 use Rattle.dpop_agent.specs.declared.separator.Over.{Over}
 
--- a table over these variables with these sizes whose cells are each the cost of the same values, cut off at the cap
+-- a table over these variables with these sizes; its cell at any values is the cost that `costs`
+-- gives for them, or the cap if that is more
 pub record IsCostOf (over sizes : List ℕ) (costs : (ℕ → ℕ) → ℕ) (t : CostTable) : Type 0 where
   pub same_scope : t.scope ≡ over
   pub same_sizes : t.sizes ≡ sizes

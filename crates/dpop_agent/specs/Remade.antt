@@ -12,7 +12,8 @@ use Rattle.dpop_agent.specs.declared.made.Made.{Made}
 use Rattle.dpop_agent.specs.Keeping.{keeping, MayKeep}
 use Rattle.dpop_agent.specs.Joint.{IsJoint}
 
--- the table that was sent, if any tables were made
+-- of the two tables that an agent made, its joined table and its UTIL table: the UTIL table, which
+-- is for its parent; none if it made none
 abbrev pub sent_by : Option Made → Option CostTable
 sent_by None = None
 sent_by (Some made) = Some made.sent

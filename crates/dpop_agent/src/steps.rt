@@ -26,7 +26,8 @@ impl<L: Ledger> Model for Steps<L> {
 }
 
 impl<L: Ledger> Steps<L> {
-    /// A count of no steps yet. The ledger that keeps it has at least one part.
+    /// A count of steps, which is still 0; [`remake`](crate::remake) adds the number of its joined
+    /// cells. The ledger that keeps it has at least one part.
     pub fn new(blank: Blank) -> Steps<L>
         requires name { blank.name ≡ L.name }
         requires parts { blank.parts ≡ L.parts }

@@ -39,12 +39,14 @@ pub record HaveSameTrees (p q : Dcop) : Type 0 where
   pub cells : (paths : List (List ℕ)) (i : ℕ) → joined_cells q paths i ≡ joined_cells p paths i
   pub wide : (paths : List (List ℕ)) → wide_of q paths ≡ wide_of p paths
 
--- other cells in a table leave the trees as they are; they also leave what is held for each variable that is not on the way from the table's deepest variable to the root
+-- if a table gets other cells, the trees stay the same, and the tables that were held for a
+-- variable are still held, unless the variable is on the way from the table's deepest variable to
+-- the root
 pub record LeavesOthers (p : Dcop) (k : ℕ) (cells : List ℕ) : Type 0 where
   pub trees : HaveSameTrees p (with_cells p k cells)
   pub held : (paths : List (List ℕ)) (kept : List (Option Made)) (i : ℕ) → IsPseudotree p paths
       → is_on_way paths (table_at p k).scope i ≡ false → IsHeld p paths kept i → IsHeld (with_cells p k cells) paths kept i
 
--- in every problem, other cells in a table leave the trees as they are, and what is held for each variable that is not on the way from the table's deepest variable to the root
+-- what `LeavesOthers` says is true of every table of every problem
 abbrev pub EditsLeaveOthers : Type 0
 EditsLeaveOthers = (p : Dcop) (k : ℕ) (cells : List ℕ) → IsProblem p → k < length p.tables → LeavesOthers p k cells

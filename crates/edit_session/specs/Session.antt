@@ -25,8 +25,8 @@ pub record OpenSession : Type 0 where
 abbrev pub opened_session : TextFile → OpenSession
 opened_session f = record { state = opened f; kept = replicate (length f.problem.sizes) None }
 
--- the DPOP tables, for the current problem, of each agent that is not touched and of its
--- descendants are held
+-- for each agent that is not touched: its tables and those of its descendants are held, for the
+-- current problem
 abbrev pub HoldsOthers : OpenSession → Type 0
 HoldsOthers v = (i : ℕ) → i < length v.state.touched → is_touched v.state.touched i ≡ false → AreHeldFrom (solved_now v.state) (tree_now v.state) v.kept i
 

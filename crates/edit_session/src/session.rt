@@ -129,9 +129,9 @@ impl Session {
         self.replace(table as usize, cells)
     }
 
-    /// The optimum of the current problem, and how many agents were touched. The tables of touched
-    /// agents are recomputed; afterwards no agent is touched. The steps rise by the cells of the
-    /// touched agents' joined tables.
+    /// The optimum of the current problem, and how many agents were touched, so that their tables
+    /// are made again. Afterwards no agent is touched. The steps rise by the cells of the touched
+    /// agents' joined tables.
     ///
     /// # Errors
     ///
@@ -159,9 +159,9 @@ impl Session {
         )
     }
 
-    /// The session holds the DPOP tables, for the current problem, of each agent that is not
-    /// touched and of its descendants. Reading a field of the session shows this; the call does no
-    /// more.
+    /// The session has, for the current problem, the DPOP tables of each agent that is not touched,
+    /// and of the descendants of such an agent. Reading a field of the session shows this; the call
+    /// does no more.
     pub fn holds_others(&self)
         ensures { HoldsOthers self.now }
     {

@@ -1,5 +1,5 @@
-//! Links: first-in, first-out queues from one thread to another that refuse no item because they
-//! are full.
+//! Links: first-in, first-out queues from one thread to another, in which an item waits if the ring
+//! is full.
 //!
 //! A link is a ring of 64 slots, with a backlog at its tail for items that find no free slot. The
 //! [`LinkTail`] sends and the [`LinkHead`] takes. Each may move to a thread of its own, and neither

@@ -5,7 +5,8 @@ use Rattle.dcop_base.specs.Table.{CostTable}
 use Rattle.dcop_base.specs.Problem.{Dcop}
 use Rattle.instance_make.specs.Stream.{state_after, word_at}
 
--- a cell drawn from a word: at most the top cost
+-- a cell made from a word, which is a random number: at most `top`, the greatest cost that is asked
+-- for
 abbrev pub cell_of : ℕ → ℕ → ℕ
 cell_of top word = word % (top + 1)
 

@@ -6,8 +6,9 @@ ghost use Rattle.protocol_steps.specs.Run.{ascends_from, form_fault};
 
 use protocol_steps::{EventFault, Take};
 
-/// The first fault in the form of these takes, among `count` agents and by an agent that has ended
-/// or not; `None` if there is none.
+/// The first fault in the form of these takes, if there are `count` agents: a sender that is none
+/// of them, that the agent has ended, no take or one of no messages, or senders that do not ascend;
+/// `None` if there is none.
 pub fn form_of(count: usize, ended: bool, takes: &[Take]) -> Option<EventFault>
     ensures { result ≡ form_fault count ended takes.now }
 {

@@ -28,7 +28,7 @@ pub record FirstDiffer (passages : List Passage) (number place at : ℕ) : Type 
 abbrev pub IsLowerLink : Wire → Wire → Type 0
 IsLowerLink v w = (v.sender < w.sender) ⊎ ((v.sender ≡ w.sender) × (v.receiver < w.receiver))
 
--- each exchange took what it drained on all links of the list that come before this one
+-- on each link of the list that comes before this one, exactly what each exchange drained arrived
 abbrev pub HoldBefore : List Wire → Wire → Type 0
 HoldBefore ws w = (k : ℕ) (v : Wire) → slice_get ws k ≡ Some v → IsLowerLink v w → HasHeld v
 

@@ -1,4 +1,5 @@
-//! Links between the nodes of agents, and the first difference on each.
+//! Links between the nodes of agents, and on each the first difference between what was drained and
+//! what arrived.
 //!
 //! An exchange drains what agents have sent to agents of another node, and something arrives there.
 //! A [`KeptLink`] compares the two lists as each exchange passes, and keeps only its first

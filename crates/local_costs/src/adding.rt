@@ -12,9 +12,9 @@ ghost use Rattle.local_costs.specs.Stride.{stride};
 use adopt_context::AgentContext;
 use dcop_base::{CAP, Table, Val, VarId, place_of, product_of};
 
-/// Adds a table's cells to the costs of the own values. Each cost gains the cell at its own value
-/// and at the known values of the other variables, which are 0 if not known. A sum above [`CAP`]
-/// becomes [`CAP`].
+/// Adds the cells of a table to the costs of the values of the agent's own variable. Each cost
+/// gains the cell at its own value and at the known values of the other variables, which are 0 if
+/// not known. A sum above [`CAP`] becomes [`CAP`].
 pub fn add_table(costs: &mut [u64], table: &Table, me: VarId, known: &AgentContext)
     requires some { 1 ≤ length costs.old }
     requires costs { All (λ c. c ≤ amount_limit) costs.old }

@@ -83,8 +83,8 @@ KeepNotes p net es old new =
     (is_some new ≡ is_some old)
     × ((made : List View) (before : List Event) → MayBeNotes p made before net old → MayBeNotes p made (before ++ es) (fold effect net es) new)
 
--- an event of agent i with these takes has led to a core state, from a network of a run whose notes
--- these are, if notes are kept; the run has fewer events than amount_limit
+-- a lawful event of agent i with these takes has led to this core state; if notes are kept, these
+-- are the notes of the run before it, which has fewer events than amount_limit
 abbrev pub HasHappened : ℕ → List Take → CoreView → Option NotesView → Type 0
 HasHappened i ts s notes =
     (p : Dcop) × (net : Network) × (made : List View) × (before : List Event) × (event_fault net (record { agent = i; takes = ts }) ≡ None)

@@ -141,8 +141,8 @@ fn note_in(
     Ok(())
 }
 
-/// Notes an event of this agent with these takes, which has led to this core state, if notes are
-/// kept.
+/// If notes are kept, adds to them an event of this agent with these takes, which has led to this
+/// core state.
 ///
 /// # Errors
 ///

@@ -8,7 +8,8 @@ pub fn codes_differ()
     ensures { CodesDiffer }
 {}
 
-/// The code of an envelope has no bad position.
+/// The code of an envelope has no bad position: each of its fields is complete and within its
+/// range, and nothing follows.
 pub fn codes_are_good()
     ensures { CodesAreGood }
 {}

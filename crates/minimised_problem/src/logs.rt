@@ -26,10 +26,10 @@ pub fn merged_logs_hold()
     merged_stamps_are_right();
 }
 
-/// A report with a log and a value for each variable holds exactly when it has no difference. The
-/// possible differences, in the order in which they are reported, are an event that is not lawful,
-/// a stamp, the status, the deliveries, the values, the cost, the bounds, and a gap above the
-/// error.
+/// A report with a log and a value for each variable holds exactly when no difference is found
+/// between it and the run that its log gives. The possible differences, in the order in which they
+/// are reported, are an event that is not lawful, a stamp, the status, the deliveries, the values,
+/// the cost, the bounds, and a gap above the error.
 pub fn differences_are_exact()
     ensures { DifferencesAreExact }
 {

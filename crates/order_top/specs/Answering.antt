@@ -37,7 +37,7 @@ abbrev pub IsTextReply : Asked → Result Declared Fault → Reply → Type 0
 IsTextReply asked (Ok d) reply = IsOrdered asked d reply
 IsTextReply asked (Err fault) reply = reply ≡ Refused (refused_by fault)
 
--- a text is read
+-- a text is accepted: what it declares is read without a fault
 abbrev pub IsRead : List ℕ → Type 0
 IsRead text = (declared : Declared) × (whole_read text ≡ Ok declared)
 
@@ -54,6 +54,6 @@ order_program = record {
 abbrev pub OrderAnswersAreOne : Type 0
 OrderAnswersAreOne = RepliesAreOne order_program
 
--- what words ask for and what a text declares have one file
+-- for what words ask for and what a text declares, no two different files are ordered as asked
 abbrev pub OrderedFilesAreOne : Type 0
 OrderedFilesAreOne = (asked : Asked) (d : Declared) (f g : TextFile) → IsOrderedAs asked d f → IsOrderedAs asked d g → f ≡ g

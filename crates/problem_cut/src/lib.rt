@@ -1,4 +1,5 @@
-//! Cuts of a problem: which variables are cut, the turns of a cut, and the slice of each turn.
+//! Cuts of a problem: which variables are cut, the turns of a cut (one for each list of values of
+//! these variables), and the slice of each turn.
 //!
 //! [`cut_set`] chooses the cut variables by a rule, so that no joined table has more cells than a
 //! limit. A turn is a list of values, one for each cut variable. [`turn_at`] gives the turn with a

@@ -9,12 +9,14 @@ use Rattle.problem_text.specs.declared.cell_words.Summary.{Summary}
 use Rattle.dcop_base.specs.Table.{CostTable}
 use Rattle.problem_text.specs.Declarations.{Declared, Outcome, Declares, Fails, with_variable, with_table}
 
--- an end agrees with a line's outcome: a fault is the line's fault
+-- why the reading of a line stopped agrees with the line's outcome: if it stopped with a fault,
+-- this is the line's fault
 abbrev pub Ends : LineEnd TextKind → Outcome → Type 0
 Ends ends.NoMemory outcome = Unit {0}
 Ends (ends.Fault kind) outcome = outcome ≡ Fails kind
 
--- a result of reading agrees with a line's outcome; `view` gives the outcome that a value means
+-- a result of reading agrees with a line's outcome; `view` turns a value that was read into the
+-- outcome of its line
 abbrev pub Gives : {A : Type 0} → (A → Outcome) → Result A (LineEnd TextKind) → Outcome → Type 0
 Gives view (Ok x) outcome = outcome ≡ view x
 Gives view (Err e) outcome = Ends e outcome

@@ -24,7 +24,8 @@ pub struct Summary {
     pub greatest: u64,
 }
 
-/// The first fault of one more table's cells, found from their summary.
+/// The first fault of the cells of a table that is to be added to what a text has declared so far,
+/// the draft; it is found from their number and their greatest one.
 pub fn fault_of(draft: &Draft, sizes: &[u16], cells: &Summary) -> Option<TextKind>
     requires { cells.now.count < 2 ^ 64 - 1 }
     ensures { (t : CostTable) → t.sizes ≡ sizes.now → summary t.cells ≡ cells.now
@@ -47,8 +48,9 @@ pub fn fault_of(draft: &Draft, sizes: &[u16], cells: &Summary) -> Option<TextKin
     None
 }
 
-/// The cells that the words of a text write, and their summary. Only the first `most` cells are
-/// kept; if there are at most `most`, these are all of them.
+/// The cells that the words of a text write, with their summary: how many they are, and the
+/// greatest. Only the first `most` cells are kept; if there are at most `most`, these are all of
+/// them.
 pub fn cells_of(
     alloc: Global,
     text: &[u8],

@@ -116,7 +116,7 @@ impl Draft {
         })
     }
 
-    /// The same draft with one more table, whose cells have this summary.
+    /// The same draft with one more table, whose number of cells and greatest cell these are.
     pub fn with_table(self, table: Table, told: Summary) -> Result<Draft, NoMemory>
         requires draft { IsDraft (with_table self table) }
         requires told { summary table.cells ≡ told }

@@ -24,9 +24,9 @@ pub struct ShortRun<'a> {
     pub after: &'a [u8],
 }
 
-/// Writes the short numbers that a text begins with into `cells`, until `cells` is full. It stops
-/// before anything that is not a short number between two spaces, and a few bytes before the end of
-/// the text.
+/// Writes the numbers of at most 8 digits with which a text begins into `cells`, until `cells` is
+/// full or something else comes. Each must stand between two spaces, and it stops a few bytes
+/// before the end of the text.
 pub fn short_run<'a>(cells: &mut [u64], text: &'a [u8]) -> ShortRun<'a>
     ensures size { length cells.new ≡ length cells.old }
     ensures count { result.count ≤ length cells.old }

@@ -17,7 +17,8 @@ use crate::scope_words::{most_names, past_colon, scope_of};
 use dcop_base::{CellList, MAX_CELLS, Table, VarList, product_of, repeats, sizes_of};
 use std::alloc::Global;
 
-/// The table that the words after `table` declare, and the summary of its cells.
+/// The table that the words after `table` declare, with the summary of its cells: how many they
+/// are, and the greatest.
 pub fn table_of(
     alloc: Global,
     draft: &Draft,

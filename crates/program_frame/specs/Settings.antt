@@ -20,11 +20,11 @@ word_of names.From = codes "--from"
 word_of names.To = codes "--to"
 word_of names.Format = codes "--format"
 
--- an option that takes a number from `least` to `most`, without a value
+-- an option that takes a number from `least` to `most`; it has no value yet
 abbrev pub number_setting : OptionName → ℕ → ℕ → Setting
 number_setting name least most = record { name = name; takes = takes.Number least most; value = None }
 
--- the option `--format`, without a value
+-- the option `--format`; it has no value yet
 abbrev pub format_setting : Setting
 format_setting = record { name = names.Format; takes = takes.Format; value = None }
 

@@ -22,12 +22,14 @@ abbrev pub unless_fault : {A B : Type 0} → Result A WordFault → (A → Resul
 unless_fault (Ok value) next = next value
 unless_fault (Err fault) next = Err fault
 
--- what this option takes, unless no option has the name or it has a value already
+-- the kind of value that the named option takes; or the fault of the word at this place, if no
+-- option has that name or the option has a value already
 abbrev pub option_new : ℕ → Option Setting → Result Takes WordFault
 option_new at None = Err (Bad at UnknownOption)
 option_new at (Some option) = if is_some option.value then Err (Bad at Twice) else Ok option.takes
 
--- what the option takes that the word at this place names, or the fault of the word
+-- what an option takes, if the word at this place names one that has no value yet; otherwise the
+-- fault of the word
 abbrev pub option_told : ℕ → List Setting → List ℕ → Result Takes WordFault
 option_told at settings word = option_new at (setting_named word settings)
 

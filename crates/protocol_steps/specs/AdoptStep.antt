@@ -13,7 +13,9 @@ use Rattle.protocol_steps.specs.AdoptBounds.{delta, lower_of, best_lower, best_u
 use Rattle.protocol_steps.specs.AdoptMessage.{adopt_message}
 use Rattle.protocol_steps.specs.AdoptRange.{is_parent}
 
--- the agent changes its value if it must: step 2 of backTrack
+-- the agent changes its value if it must: to the lowest value with the least UB(d) if its threshold
+-- is UB, and otherwise to the lowest value with the least LB(d) if the LB(d) of its own value is
+-- above its threshold (step 2 of backTrack)
 abbrev pub choose : AdoptView → AdoptView
 choose v =
     if is_value (upper_bound v) v.threshold then record v { value = best_upper v }
@@ -23,7 +25,8 @@ choose v =
 abbrev pub to_allot : AdoptView → ℕ
 to_allot v = lower_to (v.threshold - delta v v.value) (capped (upper_sum (row_at v.rows v.value)))
 
--- the threshold is allotted to the children: step 4 of backTrack
+-- what is to be allotted is divided among the children, as their shares for the value of the agent
+-- (step 4 of backTrack)
 abbrev pub allotted : AdoptView → AdoptView
 allotted v = record v { rows = slice_set v.rows v.value (allot (to_allot v) (row_at v.rows v.value)) }
 
@@ -31,7 +34,7 @@ allotted v = record v { rows = slice_set v.rows v.value (allot (to_allot v) (row
 abbrev pub may_end : AdoptView → Bool
 may_end v = is_value (upper_bound v) v.threshold && (is_root v || v.told)
 
--- the agent ends if it may: step 6 of backTrack
+-- the agent ends if it may (step 6 of backTrack)
 abbrev pub settle : AdoptView → AdoptView
 settle v = if may_end v then record v { phase = record v.phase { ended = true } } else v
 
@@ -48,7 +51,9 @@ abbrev pub messages_to_child : AdoptView → ℕ → List Message
 messages_to_child v j =
     Threshold (share_of v j) v.known ∷ (if v.phase.ended then Terminate (put v.known v.own.me v.value) ∷ [] else [])
 
--- the messages to a neighbour from a view after backTrack: steps 3, 5 and 6
+-- the messages to a neighbour from a view after backTrack: VALUE to a lower neighbour; what
+-- `messages_to_child` says to a child; COST to the parent, unless the agent has ended (steps 3, 5
+-- and 6)
 abbrev pub messages_for : AdoptView → ℕ → List Message
 messages_for v j =
     (if has v.place.lower j then Value v.value ∷ [] else [])
@@ -59,7 +64,8 @@ messages_for v j =
 abbrev pub adopt_sends : AdoptView → List (ℕ × Message)
 adopt_sends v = flat_map (λ j. map (λ m. (j, m)) (messages_for v j)) v.own.neighbours
 
--- backTrack: the view after it, and what the agent sends
+-- backTrack, with which each start and each activation of an ADOPT agent ends: the view after it,
+-- and what the agent sends
 abbrev pub back_track : AdoptView → Stepped AdoptView
 back_track v = record { view = closed v; sends = adopt_sends (closed v) }
 
@@ -67,6 +73,6 @@ back_track v = record { view = closed v; sends = adopt_sends (closed v) }
 abbrev pub adopt_start : AdoptView → Stepped AdoptView
 adopt_start v = back_track (record v { value = best_lower v; phase = record v.phase { started = true } })
 
--- one activation
+-- one activation: the agent handles the messages of a batch in order, and then does backTrack
 abbrev pub adopt_step : AdoptView → List (ℕ × Message) → Stepped AdoptView
 adopt_step v ls = back_track (fold (λ w l. adopt_message w l.0 l.1) v ls)

@@ -12,7 +12,7 @@ use Rattle.protocol_steps.specs.Stamps.{Gain, Deed, Posted, Account, do_one}
 abbrev pub takes_of : List Gain → List Take
 takes_of gains = map (λ g. record { from = g.from; count = length g.envelopes }) gains
 
--- the event of an activation
+-- an activation as an event of a run: its agent, and its takes, which do not hold the messages
 abbrev pub event_of : Deed → Event
 event_of d = record { agent = d.agent; takes = takes_of d.gains }
 
@@ -24,7 +24,9 @@ greatest_from m es = fold (λ k e. max k e.0) m es
 abbrev pub greatest_of : List Gain → ℕ
 greatest_of gains = fold (λ m g. greatest_from m g.envelopes) 0 gains
 
--- an activation that an agent's account allows: it has the form of a lawful event, and its stamp is 1 plus the greatest of the agent's last stamp and the stamps of what it takes
+-- an activation that may come next for an agent with this account: it has the form of a lawful
+-- event, and its stamp is 1 plus the greatest of the agent's last stamp and the stamps of what it
+-- takes
 pub record IsDeed (n : ℕ) (x : Account) (d : Deed) : Type 0 where
   pub known : d.agent < n
   pub form : form_fault n (ended_of x.view) (takes_of d.gains) ≡ None
@@ -55,7 +57,8 @@ envelope_to i p = if p.to == i then p.envelope ∷ [] else []
 abbrev pub posted_to : ℕ → List Posted → List (ℕ × Message)
 posted_to i posted = flat_map (λ p. envelope_to i p) posted
 
--- the messages that one activation took from agent j, or none if it took from another
+-- the messages of a gain, which is what an activation takes from one sender, if this sender is
+-- agent j; none otherwise
 abbrev pub gain_from : ℕ → Gain → List (ℕ × Message)
 gain_from j g = if g.from == j then g.envelopes else []
 

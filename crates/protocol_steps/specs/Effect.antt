@@ -8,7 +8,7 @@ use Rattle.protocol_steps.specs.View.{View, ended_of}
 use Rattle.protocol_steps.specs.Step.{step_of}
 use Rattle.protocol_steps.specs.Network.{Desk, Network, waiting, batch}
 
--- a desk after one more activation
+-- a desk, which is what one agent has sent and taken so far, after one more activation
 abbrev pub desk_after : Desk → List (ℕ × Message) → List Take → Desk
 desk_after x sends ts = record { sent = x.sent ++ sends; takes = x.takes ++ ts }
 

@@ -41,7 +41,8 @@ pub record AreStarts (made : List View) (now : ℕ → Account) : Type 0 where
 abbrev pub StartsShow : Type 0
 StartsShow = (made : List View) (now : ℕ → Account) → AreStarts made now → Shows (length made) (start_state made) now × TakenIsPrefix now
 
--- the activations are those that the journals and the lists of taken messages give, and each agent's account allows its own ones
+-- the activations are those that the journals and the lists of taken messages give, and those of
+-- each agent may follow its account
 pub record AreOfJournals (n : ℕ) (now : ℕ → Account) (taken : ℕ → ℕ → List (ℕ × Message)) (journals : List (List Entry)) (ds : List Deed) : Type 0 where
   pub same : (i : ℕ) → deeds_of i ds ≡ deeds_from i (taken i) (journal_at journals i)
   pub allowed : (i : ℕ) → AreDeeds n (now i) (deeds_from i (taken i) (journal_at journals i))
@@ -52,7 +53,8 @@ pub record IsRunOf (made : List View) (now : ℕ → Account) (journals : List (
   pub ends : EndsAt (length made) (start_state made) ds (after_all now ds)
   pub agrees : AgreeWith journals (map event_of ds)
 
--- the stamp law for journals: the activations that journals give, taken piece by piece and in each piece by stamp, are a run from the start state, and the journals agree with it
+-- the stamp law for journals: the activations that journals give, ordered by piece, such as a
+-- round, and in each piece by stamp, are a run from the start state, and the journals agree with it
 abbrev pub JournalsOrder : Type 0
 JournalsOrder = (made : List View) (now : ℕ → Account) (taken : ℕ → ℕ → List (ℕ × Message)) (journals : List (List Entry)) (pieces : List (List Deed)) → AreStarts made now
     → AreOfJournals (length made) now taken journals (all_of pieces) → ArePieces now pieces → IsRunOf made now journals (all_of pieces)

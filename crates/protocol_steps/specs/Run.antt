@@ -23,7 +23,8 @@ ascends_from b (t ∷ ts) = if nat_le b t.from then ascends_from (t.from + 1) ts
 abbrev pub has_nothing : List Take → Bool
 has_nothing ts = length ts == 0 || list_any (λ t. t.count == 0) ts
 
--- the first fault in the form of takes, among n agents, by an agent that has ended or not
+-- the first fault in the form of takes, if there are n agents: a sender that is none of them; that
+-- the agent has ended; no take, or one of no messages; senders that do not ascend
 abbrev pub form_fault : ℕ → Bool → List Take → Option EventFault
 form_fault n ended ts =
     if list_any (λ t. nat_le n t.from) ts then Some Nobody
@@ -60,7 +61,7 @@ abbrev pub unless : Option EventFault → Network → Option Network
 unless None net = Some net
 unless (Some f) net = None
 
--- one event of a run
+-- one event of a run: the network after it; none if the event is not lawful
 abbrev pub happen : Option Network → Event → Option Network
 happen None e = None
 happen (Some net) e = unless (event_fault net e) (effect net e)

@@ -6,7 +6,9 @@ use Rattle.dcop_base.specs.declared.knowledge.Private.{Private}
 use Rattle.pseudotree.specs.declared.agent.Place.{Place}
 use Rattle.protocol_steps.specs.Agent.{Phase, not_started}
 
--- a token agent: what it knows of the problem, its phase, whether it has opened and with which path, the subtrees of its children that came back, and the child that it waits for
+-- a token agent: what it knows of the problem, its phase, whether it has opened (taken its TOKEN,
+-- or started as the root) and the path that it then got, the subtrees of its children that came
+-- back, and the child that it waits for
 pub record TokenView : Type 0 where
   pub own : Private
   pub phase : Phase

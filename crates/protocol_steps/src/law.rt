@@ -21,8 +21,9 @@ pub fn acquaintance_is_knowledge()
     ensures { AcquaintancesAreKnowledge }
 {}
 
-/// The place of a variable in a linked pseudotree of a problem fits what its agent is given of the
-/// problem.
+/// In a linked pseudotree of a problem, the place of a variable fits what its agent is given of the
+/// problem: each neighbour is on the path or is a lower neighbour, the parent is a neighbour, and
+/// the children are lower neighbours.
 pub fn places_fit()
     ensures { PlacesFit }
 {}
@@ -32,9 +33,9 @@ pub fn origins_stay()
     ensures { OriginsStay }
 {}
 
-/// Each parcel of a start or a step goes to a neighbour that the view names, if the agent's parent
-/// and children are among its neighbours and what it takes comes from neighbours. The parent and
-/// the children stay among the neighbours.
+/// Each parcel of a start or a step goes to one of the neighbours that the agent knows, if its
+/// parent and its children are among these and what it takes comes from them. The parent and the
+/// children stay among the neighbours.
 pub fn parcels_go_to_neighbours()
     ensures { ParcelsGoToNeighbours }
 {}
@@ -52,15 +53,15 @@ pub fn journals_decide()
     ensures { JournalsDecide }
 {}
 
-/// The stamp law: activations that each agent's own account allows are a run, ordered by piece and
-/// in each piece by stamp, if at the end of each piece what was taken on a link is the first part
-/// of what was sent.
+/// The stamp law: activations, each of which fits what its agent alone did before, are a run when
+/// they are ordered by piece, such as a round, and in each piece by stamp, if at the end of each
+/// piece what was taken on each link is the first part of what was sent.
 pub fn stamps_order()
     ensures { StampsOrder }
 {}
 
-/// The start state is the network of its agents' accounts, and nothing is taken in it, so the stamp
-/// law applies to it.
+/// The accounts of agents that have only started, and have taken nothing, give the start state, so
+/// the stamp law applies to it.
 pub fn starts_show()
     ensures { StartsShow }
 {}

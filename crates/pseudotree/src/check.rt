@@ -45,8 +45,9 @@ pub fn check_tree(
     tree_of(alloc, problem, paths)
 }
 
-/// The tree with the paths of a pseudotree of the problem. [`check_tree`] gives the same tree for
-/// its parents, but computes the paths again. Takes the same order of time as `check_tree`.
+/// The tree in which the variables have these paths, which must be those of a pseudotree of the
+/// problem. [`check_tree`] gives the same tree for its parents, but computes the paths again. Takes
+/// the same order of time as `check_tree`.
 ///
 /// # Errors
 ///

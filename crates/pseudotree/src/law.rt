@@ -11,8 +11,8 @@ pub fn separators_nest()
     ensures { SeparatorsNest }
 {}
 
-/// In every pseudotree of a problem, each table belongs to exactly one variable: the one whose
-/// ancestors are all other variables of the table.
+/// In every pseudotree of a problem, each table belongs to exactly one variable: the variable of
+/// the table that has all its other variables among its ancestors.
 pub fn tables_have_owners()
     ensures { TablesHaveOwners }
 {}

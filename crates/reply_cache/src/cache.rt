@@ -142,8 +142,8 @@ impl<M: Maker, A: Ledger, B: Ledger> ReplyCache<M, A, B> {
         self.finds.len() as u64
     }
 
-    /// Changes nothing, but a caller that has all parts of both ledgers learns by its clauses that
-    /// they have counted what the cache counted.
+    /// A proof step: if a share has all parts of the counts of looks and of misses, its counts are
+    /// the looks and the misses of the cache. It changes no count.
     pub fn audit(&mut self, share: &mut LookShare<A, B>)
         requires whole { (share.old.looks.parts ≡ A.parts) × (share.old.misses.parts ≡ B.parts) }
         ensures same { self.new ≡ self.old }

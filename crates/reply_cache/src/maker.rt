@@ -44,7 +44,8 @@ pub trait Maker: Send + Drop {
         ensures counted { calls self.new ≡ calls self.old + 1 }
         ensures step { does self.old (Made key.now) self.new };
 
-    /// Learns of a look at the cache in the same session. It takes no memory.
+    /// Is told of a look at the cache in the same session: its key, and whether a reply was found.
+    /// It takes no memory.
     fn note(&mut self, look: Look<'_>)
         ensures uncounted { calls self.new ≡ calls self.old }
         ensures step { does self.old (Looked look.entry.key.now look.entry.found) self.new };

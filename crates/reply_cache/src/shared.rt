@@ -36,7 +36,7 @@ impl SharedBytes {
         Ok(SharedBytes { bytes })
     }
 
-    /// One more owner of the same bytes. It takes no memory.
+    /// Gives the same bytes one more owner. It takes no memory.
     ///
     /// # Errors
     ///

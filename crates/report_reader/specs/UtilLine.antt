@@ -44,7 +44,8 @@ util_counted sizes var parent scope cells =
     then Ok (record { var = var; parent = parent; scope = scope; cells = cells })
     else Err CellCount
 
--- a table with these parts, each given if its words give it: names are tested first, then numbers
+-- a table with these parts; the first fault if words did not give one of them: names are tested
+-- first, then numbers
 abbrev pub util_told : List ℕ → Option ℕ → Option (Option ℕ) → Option (List ℕ) → Option (List ℕ) → Result Util ReportKind
 util_told sizes (Some var) (Some parent) (Some scope) (Some cells) = util_counted sizes var parent scope cells
 util_told sizes (Some var) (Some parent) (Some scope) None = Err BadNumber

@@ -90,7 +90,7 @@ impl<'a> Lines<'a> {
     }
 }
 
-/// What the line with this number gives, or its fault.
+/// The result of reading the line with this number; a fault gets the number of the line.
 pub fn told_by<T: Drop>(line: u64, told: Result<T, LineEnd<ReportKind>>) -> Result<T, ReportFault>
     ensures { IsTold line told result }
 {

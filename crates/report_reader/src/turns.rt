@@ -30,7 +30,8 @@ pub struct CutSizes {
     pub slice: SizeList,
 }
 
-/// The sizes that the lines of a cut must fit, given the sizes of all variables.
+/// The sizes that the lines of a cut must fit: those of the cut variables, and those of all
+/// variables in a slice, in which cut variables have size 1.
 pub fn cut_sizes_of(alloc: Global, sizes: &[u16], cut: &[VarId]) -> Result<CutSizes, NoMemory>
     requires { All (λ v. v < length sizes.now) cut.now }
     ensures { IfOk result (λ s. s ≡ reading.cut_sizes sizes.now cut.now) }

@@ -22,7 +22,8 @@ use Rattle.run_laws.specs.AdoptUncut.{AreUncut}
 abbrev pub IsValueAbove : Dcop → List (List ℕ) → ℕ → ℕ × ℕ → Type 0
 IsValueAbove p paths i q = (is_above paths q.0 i ≡ true) × (q.1 < slice_index p.sizes q.0)
 
--- the bounds of an entry enclose the child, under the entry's context together with the entry's value for variable i
+-- an entry of variable i, for its value d and its child in place k: the bounds enclose the child's
+-- subtree optimum, under the entry's context together with the value d of variable i
 abbrev pub EntryEncloses : Dcop → List (List ℕ) → ℕ → ℕ → ℕ → Entry → Type 0
 EntryEncloses p paths i d k e = Encloses p paths (slice_index (children_of paths i) k) (value_in (put e.context i d)) e.lower e.upper
 

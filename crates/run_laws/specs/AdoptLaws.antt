@@ -19,7 +19,9 @@ pub record EntryHolds (known : Context) (e : Entry) : Type 0 where
   pub low : e.lower ≤ e.share
   pub high : IsAtMost e.share e.upper
 
--- the entries of an agent: each one holds; the threshold is between the agent's bounds; and it is the cost of the value plus the shares of the children if all higher neighbours are known and the sum for the lower bound is not cut off at the cap
+-- the entries of an agent: what `EntryHolds` says is true of each one; the threshold is between the
+-- agent's bounds; and it is the cost of the value plus the shares of the children if all higher
+-- neighbours are known and the sum for the lower bound is not cut off at the cap
 pub record EntriesHold (v : AdoptView) : Type 0 where
   pub entries : (d k : ℕ) → EntryHolds v.known (entry_at v.rows d k)
   pub low : lower_bound v ≤ v.threshold
@@ -31,6 +33,7 @@ pub record EntriesHold (v : AdoptView) : Type 0 where
 abbrev pub after_batches : AdoptView → List (List (ℕ × Message)) → AdoptView
 after_batches made batches = fold (λ v ls. (adopt_step v ls).view) (adopt_start made).view batches
 
--- the entries of every agent hold after its start and after every activation, whatever it receives
+-- what `EntriesHold` says is true of every agent after its start and after every activation,
+-- whatever it receives
 abbrev pub AdoptEntries : Type 0
 AdoptEntries = (own : Private) (place : Place) (error : ℕ) (batches : List (List (ℕ × Message))) → EntriesHold (after_batches (new_adopt own place error) batches)

@@ -19,7 +19,8 @@ use Rattle.protocol_steps.specs.View.{AdoptKind}
 use Rattle.run_laws.specs.AdoptRun.{IsAdoptRun}
 use Rattle.run_laws.specs.AdoptAgents.{IsSent, AreAgents}
 
--- what holds at the end of a run of ADOPT, whether or not all agents have ended
+-- the end of a run of ADOPT, whether or not all agents have ended: there is an agent for each
+-- variable, `AreAgents` holds of the agents, and `IsSent` of all that they have sent
 pub record HoldsOfAdopt (p : Dcop) (paths : List (List ℕ)) (error : ℕ) (end : Network) : Type 0 where
   pub sized : length end.views ≡ length p.sizes
   pub agents : AreAgents p paths error end.views

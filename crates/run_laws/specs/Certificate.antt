@@ -9,7 +9,8 @@ use Rattle.dcop_optimum.specs.Optimum.{IsOptimum}
 use Rattle.dcop_optimum.specs.Certificate.{AreLowerTables, IsTableCertificate}
 use Rattle.run_laws.specs.Slice.{AreCut, AreCutValues, slice_of}
 
--- the root has the one cell c in the tables of a turn
+-- the root's table has c as its only cell; `cells` has the cells of the tables of one turn, by
+-- variable
 abbrev pub IsRootCell : List (List ℕ) → ℕ → ℕ → Type 0
 IsRootCell cells root c = slice_index_or cells root [] ≡ c ∷ []
 

@@ -36,7 +36,7 @@ slice_of p cut values = record { sizes = ones_at cut p.sizes; tables = map (slic
 abbrev pub SlicesAreProblems : Type 0
 SlicesAreProblems = (p : Dcop) (cut values : List ℕ) → IsProblem p → IsProblem (slice_of p cut values)
 
--- a problem that is a slice cell by cell, and whose tables are whole, is this slice
+-- a problem that agrees with a slice cell by cell, and whose tables have no fault, is this slice
 abbrev pub SlicesAreOne : Type 0
 SlicesAreOne = (p : Dcop) (cut values : List ℕ) (slice : Dcop) → IsSliceOf p cut values slice → All IsTable slice.tables → slice ≡ slice_of p cut values
 

@@ -4,11 +4,11 @@ ghost use Rattle.run_laws.specs.AdoptLaws.{AdoptEntries};
 ghost use Rattle.run_laws.specs.AdoptPendingLaw.{AdoptPending};
 ghost use Rattle.run_laws.specs.AdoptRunLaws.{AdoptBoundsEnclose, NoBoundsCross};
 
-/// The entries of an ADOPT agent hold after its start and after each activation, whatever it
-/// receives. The context of each entry is part of what is known, and its share is between its
-/// bounds. The threshold is between the agent's bounds. If all higher neighbours are known and the
-/// sum for the lower bound is not cut off at the cap, the threshold is the cost of the value plus
-/// the shares of the children.
+/// After its start and after each activation, whatever it receives, each entry of an ADOPT agent
+/// has a context that is part of what the agent knows, and a share between its bounds. The
+/// threshold is between the agent's bounds. If all higher neighbours are known and the sum for the
+/// lower bound is not cut off at the cap, the threshold is the cost of the value plus the shares of
+/// the children.
 pub fn adopt_entries()
     ensures { AdoptEntries }
 {}

@@ -13,8 +13,9 @@ pub fn slices_are_problems()
     ensures { SlicesAreProblems }
 {}
 
-/// A problem that is a slice cell by cell, and whose tables are whole, equals the slice of the
-/// definitions.
+/// A problem with the sizes, the joints and the cells of a given slice, and with tables that have
+/// no fault, is the one that `slice_of` gives. A table without a fault has exactly as many cells as
+/// its sizes ask for.
 pub fn slices_are_one()
     ensures { SlicesAreOne }
 {}
@@ -41,13 +42,14 @@ pub fn optima_are_least_of_slices()
     ensures { SlicingLaw }
 {}
 
-/// If no size exceeds the limit, the rule of the cut set gives exactly one list of variables.
+/// If no variable has more values than a joined table may have cells, the rule that chooses the
+/// variables to be cut gives exactly one list of them on each pseudotree.
 pub fn cut_sets_are_one()
     ensures { CutSetsAreOne }
 {}
 
-/// The tables of a slice have as many cells as those of the problem in which the cut variables have
-/// size 1.
+/// The joined tables of a slice, and all tables sent, have as many cells as are counted on the
+/// problem itself if the size of each cut variable is taken as 1.
 pub fn slices_have_counted()
     ensures { SlicesHaveCounted }
 {}

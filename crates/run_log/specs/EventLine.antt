@@ -27,7 +27,7 @@ are_pairs [] = true
 are_pairs (word ∷ []) = false
 are_pairs (word ∷ next ∷ later) = are_pairs later
 
--- the take with these parts, each given if its word gives it
+-- the take of this sender and this count; a fault if a word did not give one of them
 abbrev pub take_told : Option ℕ → Option ℕ → Result Take ReportKind
 take_told None count = Err UnknownName
 take_told (Some from) None = Err BadNumber
@@ -46,7 +46,7 @@ takes_told names (sender ∷ []) = Err BadLine
 takes_told names (sender ∷ count ∷ later) =
     take_before (take_told (position (bytes_eq sender) names) (number_within take_limit count)) (takes_told names later)
 
--- the event with these parts, each given if its words give it
+-- the event with these parts; the first fault if words did not give one of them
 abbrev pub event_told : Option ℕ → Option ℕ → Result (List Take) ReportKind → Result LogEvent ReportKind
 event_told None stamp takes = Err UnknownName
 event_told (Some agent) None takes = Err BadNumber

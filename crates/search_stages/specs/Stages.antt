@@ -25,7 +25,12 @@ pub record IsNothingYet (best : Option ℕ) (o : Outcome) : Type 0 where
   pub lower : o.ended.lower ≡ 0
   pub spent : o.ended.spent ≡ true
 
--- a stage with this budget and this limit of a joined table's cells, after stages that had not ended: a search from what is known so far, by mini-bucket bounds of the shared costs, which are parted only if they are too wide for the limit and keep at most `--cells` cells; the greatest lower bound of the stages stays, and they are spent if this search is and the best known cost is more than the error above that bound
+-- a stage with this budget and with this limit of the cells of a joined table, after stages that
+-- had not ended. It is a search from what is known so far, by mini-bucket bounds of the shared
+-- costs; buckets are parted only if they are too wide for the limit, and the bounds have at most as
+-- many cells as were asked for. The lower bound after it is the greatest of all stages. The stages
+-- are spent only if this search is, and if the best known cost is then more than the error above
+-- that bound
 pub record IsStage (p : Dcop) (shared : SharedCosts) (asked : Asked) (budget limit : ℕ) (before after : Outcome) : Type 0 where
   pub needed : before.ended.spent ≡ true
   pub within : budget ≤ asked.budget

@@ -46,7 +46,7 @@ abbrev pub IsTextReply : Asked → Result DeclaredInput Answer → Reply → Typ
 IsTextReply asked (Ok told) reply = IsFileReply asked told.declared reply
 IsTextReply asked (Err refusal) reply = reply ≡ Refused refusal
 
--- a text is read in the format that is asked for
+-- a text is accepted: it is read without a fault in the format that is asked for
 abbrev pub IsRead : Asked → List ℕ → Type 0
 IsRead asked text = (told : DeclaredInput) × (input_read asked.format text ≡ Ok told)
 

@@ -29,7 +29,8 @@ head_lines r =
     ((codes "status" ∷ ending_word r.ending ∷ []) ∷ (codes "method" ∷ codes "search" ∷ []) ∷ goal_lines r.goal)
     ++ (number_line (codes "error") r.error ∷ number_line (codes "nodes") r.nodes ∷ [])
 
--- the lines of the cost and the bounds: the bound on the assignment's side is its cost; both are left out if there is no assignment
+-- the lines of the cost and the two bounds; the bound on the side of the assignment is its cost; if
+-- there is no assignment, the cost and this bound are left out
 abbrev pub bound_lines : Goal → ℕ → Option Found → List (List (List ℕ))
 bound_lines Min bound None = number_line (codes "lower") bound ∷ []
 bound_lines Max bound None = number_line (codes "upper") bound ∷ []

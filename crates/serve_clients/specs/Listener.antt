@@ -11,10 +11,10 @@ HasListenCause old new (Ok value) = new ≡ old
 HasListenCause old new (Err faults.Failed) = (old ≤ new) × Rose old new
 HasListenCause old new (Err faults.NoMemory) = new ≡ old
 
--- known connections with this one before them
+-- connections, if they are known, with this one before them
 abbrev pub first_of : {C : Type 0} → C → Option (List C) → Option (List C)
 first_of c told = option_map (λ cs. c ∷ cs) told
 
--- known connections with this one after them
+-- connections, if they are known, with this one after them
 abbrev pub last_of : {C : Type 0} → Option (List C) → C → Option (List C)
 last_of told c = option_map (λ cs. cs ++ c ∷ []) told

@@ -39,9 +39,9 @@ pub struct Outcome {
     pub looks: u64,
 }
 
-/// Accepts as many connections as the plan says from a listener that is open, serves them
-/// concurrently over one cache of replies, each with a fresh maker, and gives them back in the
-/// order in which they were accepted. The call may wait.
+/// Accepts `plan.clients` connections from a listener that is open, serves them concurrently over
+/// one cache of replies, each with a fresh maker, and gives them back in the order in which they
+/// were accepted. The call may wait.
 ///
 /// # Errors
 ///

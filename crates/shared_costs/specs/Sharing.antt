@@ -26,9 +26,9 @@ pub record AreLeastCells (sizes : List ℕ) (var : ℕ) (t : CostTable) (leasts 
   pub most : (value : ℕ → ℕ) → AreValues sizes value → leasts (value var) ≤ cell_with t value
   pub attained : (value : ℕ → ℕ) → AreValues sizes value → (other : ℕ → ℕ) × AreValues sizes other × (other var ≡ value var) × (cell_with t other ≡ leasts (value var))
 
--- one table when a variable is shared: from each cell the least cell at its value of the variable
--- was taken, and the target for that value was added; a table that does not name the variable is
--- unchanged
+-- one table when a variable is shared: from each cell the table's least cell at the same value of
+-- the variable was subtracted, and a new amount for that value, the target, was added; a table that
+-- does not name the variable is unchanged
 pub record HasShared (sizes : List ℕ) (var : ℕ) (leasts targets : ℕ → ℕ) (old new : CostTable) : Type 0 where
   pub least : AreLeastCells sizes var old leasts
   pub cells : (value : ℕ → ℕ) → AreValues sizes value → cell_with new value ≡ cell_with old value - leasts (value var) + targets (value var)

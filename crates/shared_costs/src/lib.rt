@@ -1,4 +1,5 @@
-//! The costs of a problem, scaled and shared among its tables.
+//! The costs of a problem, all multiplied by one scale, with parts of them moved between tables
+//! that share a variable.
 //!
 //! A search needs lower bounds on what tables cost together. The least cells of the tables sum to
 //! such a bound, which is often poor. [`shared_costs`] multiplies all costs by a scale and moves

@@ -25,7 +25,8 @@ pub struct SharedCosts {
     pub depths: TableLists,
 }
 
-/// The costs of a problem, scaled and shared among its tables.
+/// The costs of a problem, all multiplied by one scale, with parts of them moved between tables
+/// that share a variable.
 ///
 /// # Errors
 ///

@@ -15,9 +15,9 @@ use dcop_base::{CAP, NoMemory, VarId};
 use std::alloc::Global;
 use util_kernel::add_lanes;
 
-/// Shares a variable among the tables at these places. For each value of the variable, each table
-/// gives its least cell there, and all of them get equal parts of the sum. The remainder of the
-/// division goes to other tables in another turn.
+/// Takes from each of these tables, for each value of a variable, its least cell there, and gives
+/// each an equal part of what was taken in all. The remainder of the division goes to other tables
+/// in another turn.
 ///
 /// A place is skipped if its table does not name the variable, or if it is not greater than the
 /// places before it. The cells of the tables are read twice.

@@ -54,8 +54,8 @@ impl<T: MadeWith<Global> + Copy> ShortList<T> {
         }
     }
 
-    /// The list of these items. Allocates nothing: it keeps the memory of the items, or frees it if
-    /// the list can hold them in itself.
+    /// The list of these items, which no other list shares. Allocates nothing: it keeps the memory
+    /// of the items, or frees it if the list can hold them in itself.
     pub fn from_vec(items: Vec<T>) -> Self
         ensures { result ≡ items.items }
     {
@@ -70,7 +70,7 @@ impl<T: MadeWith<Global> + Copy> ShortList<T> {
         }
     }
 
-    /// The list of these items. Its clones share its memory.
+    /// The list of these items, whose memory its clones share.
     ///
     /// # Errors
     ///

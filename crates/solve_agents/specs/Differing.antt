@@ -18,8 +18,8 @@ use Rattle.node_seats.specs.Links.{KeepsPairs}
 
 -- in some run of a phase of this kind, agents of a problem in this number of nodes found this
 -- difference between what was sent and what was taken; it need not be the run that took place.
--- Their links between nodes had passed nothing before: one from each agent to each of its
--- neighbours in another node, and no other, by sender and then receiver
+-- Before that run nothing had passed between the nodes. The links between them were exactly one
+-- from each agent to each of its neighbours in another node, ordered by sender and then receiver
 pub record HaveDiffered (p : Dcop) (is_phase : Start → ℕ → Type 0) (nodes : ℕ) (d : Difference) : Type 0 where
   pub start : Start
   pub fits : IsStartFor p start

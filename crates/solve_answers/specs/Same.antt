@@ -32,8 +32,8 @@ pub record AskForDpop (format : Format) (certified : Bool) (words : List (List �
   pub asked : answer_to words ≡ Ok command
   pub served : task_of command ≡ Some (File format (tasks.Dpop certified))
 
--- two inputs, each in its format, are read alike: two texts declare the same or are refused by the
--- same answer; otherwise both inputs are the same
+-- two inputs, each in its format, are read alike: if both were read whole, they declare the same or
+-- the same answer refuses both; otherwise the inputs are the same
 abbrev pub AreReadAlike : Format → Format → Input → Input → Type 0
 AreReadAlike format format' (Whole bytes) (Whole bytes') = declared_in (input_read format bytes) ≡ declared_in (input_read format' bytes')
 AreReadAlike format format' input input' = input ≡ input'
@@ -91,7 +91,8 @@ abbrev pub DrillAnswersAreOne : Type 0
 DrillAnswersAreOne = (drill : Drill) (words words' : List (List ℕ)) (input input' : Input) (a b : Answer) → drill.task ≡ tasks.Dpop false → AskForDrill drill words → AskForDrill drill words'
     → IsGiven words input a → IsGiven words' input' b → status_of a ≡ Solved → status_of b ≡ Solved → a ≡ b
 
--- an answer of auto on such an input is one of DPOP, if both ask for a certificate or neither does
+-- on an input of which `HasFitProblem` holds, an answer of auto is one of DPOP, if both ask for a
+-- certificate or neither does
 abbrev pub AutoAnswersAreThoseOfDpop : Type 0
 AutoAnswersAreThoseOfDpop = (format : Format) (certified : Bool) (words words' : List (List ℕ)) (input : Input) (answer : Answer) → AskForAuto format certified words → AskForDpop format certified words' → HasFitProblem format input
     → IsAnswer words input answer → IsAnswer words' input answer

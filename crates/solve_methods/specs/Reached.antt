@@ -14,10 +14,11 @@ use Rattle.solve_methods.specs.Adopt.{IsAdoptPlay}
 use Rattle.solve_methods.specs.Kept.{IsLogOf}
 use Rattle.solve_methods.specs.declared.adopt.Reached.{Reached}
 
--- what a run of ADOPT gave: the ending, the deliveries and the values of its end, and the bounds of
--- the root's agent and of the values' cost. The values are an assignment, and the bounds enclose
--- the optimum. If all agents have ended, the values cost at most the error more than the optimum. A
--- log was kept exactly when one is requested, and it is the log of exactly that run
+-- what a run of ADOPT gave: the ending, the deliveries and the values of its end, and the bounds
+-- that follow from those of the root's agent and from what the values cost. The values are an
+-- assignment, and the bounds enclose the optimum. If all agents have ended, the values cost at most
+-- the error more than the optimum. A log was kept exactly when one is requested, and it is the log
+-- of exactly that run
 pub record HaveReached (p : Dcop) (error budget : ℕ) (certified : Bool) (reached : Reached) : Type 0 where
   pub end : Network
   pub play : IsAdoptPlay p error budget end

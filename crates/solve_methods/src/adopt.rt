@@ -61,8 +61,8 @@ pub struct Reached {
 }
 
 /// What the ADOPT agents of a problem have reached on its depth-first tree, whose root is variable
-/// 0: the ending, the deliveries and the values of their run, the bounds of the root's agent and of
-/// the values' cost, and the log of the run if one was kept.
+/// 0: the ending, the deliveries and the values of their run, the bounds that follow from those of
+/// the root's agent and from what the values cost, and the log of the run if one was kept.
 pub fn reached_by(problem: &Problem, asked: Asked, ran: Logged) -> Reached
     requires { HaveLogged asked.budget (adopt_agents problem.now (dfs problem.now) asked.error) asked.certified ran }
     ensures { HaveReached problem.now asked.error asked.budget asked.certified result }

@@ -21,8 +21,9 @@ pub enum Settled {
     ByAdopt(Reached),
 }
 
-/// The answer of auto on a file: the report of what the agents of the problem solved reached. Its
-/// error is 0 if they chose by DPOP, and the requested error otherwise.
+/// The answer of auto, which is DPOP if its tables fit and ADOPT otherwise, on a file: the report
+/// of what the agents of the problem solved reached. Its error is 0 if they chose by DPOP, and the
+/// requested error otherwise.
 pub fn auto_answer(file: ProblemFile, asked: Asked, settled: Settled) -> Answer
     requires { GivesSettled (problem_solved file) asked.error asked.budget asked.certified settled }
     ensures belongs { AnswersAuto (declared_by file) asked.error asked.budget asked.certified result }

@@ -53,7 +53,7 @@ pub fn choice_deliveries(problem: &Problem) -> u64
 }
 
 /// The values that the DPOP agents of a problem chose on its depth-first tree, with their tables as
-/// a certificate if the nodes of the tree are given.
+/// a certificate if `nodes` tells each variable's parent and separator.
 ///
 /// # Errors
 ///

@@ -17,8 +17,8 @@ use Rattle.solve_report.specs.declared.answer.Answer.TheVariants as answers
 use Rattle.solve_report.specs.declared.replay.AgentRow.{AgentRow}
 use Rattle.solve_printed.specs.Replaying.{IsReplay}
 
--- the bounds in a row enclose the cost of its agent's subtree, under the values that the agent
--- knows in this network state
+-- the bounds in a row of a replay, which is for one agent, enclose the optimum of the agent's
+-- subtree, at the values that the agent knows in this network state
 pub record TellsBounds (p : Dcop) (state : Network) (row : AgentRow) : Type 0 where
   pub view : AdoptView
   pub is : slice_get state.views row.agent ≡ Some (AdoptKind view)

@@ -8,8 +8,8 @@ use Rattle.problem_text.specs.declared.edited.Edited.{Edited}
 use Rattle.certificate_text.specs.Named.{HasWord}
 use Rattle.certificate_text.specs.ReportText.{value_lines}
 
--- an optimum can be written with the names of a file: it has one value for each name, each with a
--- name if its variable has value names
+-- an optimum can be written with the names of a file: it has one value for each variable, and if
+-- the values of the variable have names, this value has one
 pub record IsNamedOptimum (file : TextFile) (edited : Edited) : Type 0 where
   pub many : length edited.values ≡ length file.names
   pub worded : AllZip HasWord file.labels edited.values

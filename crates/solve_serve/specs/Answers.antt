@@ -33,8 +33,8 @@ steps_for (key ∷ keys) (true ∷ finds) = Looked key true ∷ steps_for keys f
 steps_for (key ∷ keys) (false ∷ finds) = Looked key false ∷ Made key ∷ steps_for keys finds
 steps_for keys finds = []
 
--- a look was made for each of these keys, and the reply to it exactly if the look found nothing;
--- `went` states that these were the steps of the maker
+-- for each of these keys, in order, a look was made, and its reply was made exactly if the look
+-- found nothing; `went` states of a list of steps that a maker took them, and holds of these
 pub record AreLooked (went : List Step → Type 0) (keys : List (List ℕ)) (before after : Tally) : Type 0 where
   pub finds : List Bool
   pub each : length finds ≡ length keys

@@ -34,7 +34,8 @@ end_for payloads rest stuck =
     else end_behind rest (length payloads))
 
 module _ {S : Type 0} (does : S → Step → S → Type 0) (is_reply : List ℕ → List ℕ → Type 0) where
-  -- a session ended so, and a maker went from one state to another
+  -- a session ended so, and the steps of its looks and of the replies that were made led its maker
+  -- from one state to another
   abbrev pub Serves : S → S → SessionEnd → Outside → Outside → Type 0
   Serves a b end before after = HasServed is_reply (λ steps. Leads does steps a b) end before after
 

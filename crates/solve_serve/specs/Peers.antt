@@ -14,8 +14,8 @@ abbrev pub server_limit : ℕ
 server_limit = 16
 
 module _ {S K M A B : Type 0} (made : M → ℕ) where
-  -- a peer whose session did not begin: its looks, and those of them that find nothing, can be
-  -- counted, and its maker was called at most 2^62 times
+  -- a peer whose session has not begun: its share has at least one part of the count of looks and
+  -- at least one of the count of misses; and its maker was called at most 2^62 times
   pub record IsFresh (p : Peer S K M A B) : Type 0 where
     pub endless : p.end ≡ None
     pub look_parts : 0 < p.share.looks.parts
@@ -23,7 +23,8 @@ module _ {S K M A B : Type 0} (made : M → ℕ) where
     pub calls : made p.maker ≤ 2 ^ 62
 
 module _ {S K M A B : Type 0} (left : S → Option (List ℕ)) (reads : S → ℕ) (held : K → Option (List ℕ)) (writes : K → ℕ) (made : M → ℕ) where
-  -- what is outside of a peer's session
+  -- the outside of a peer's session: what its source has left, its sink, and its counts of looks,
+  -- misses and calls
   abbrev pub outside_of : Peer S K M A B → Outside
   outside_of p = outside (left p.source) (reads p.source) (answering (held p.sink) (writes p.sink) (tally p.share.looks.amount p.share.misses.amount (made p.maker)))
 

@@ -68,8 +68,8 @@ pub record IsProblemFor (format : Format) (task : FileTask) (text : List ℕ) : 
   pub within : IsWithinLimits task told.declared
 
 -- a text is a problem in this format, followed by a report that some method prints for it with a
--- certificate. The problem ends with line_feed, and after its last line there are no words, not
--- even in comments
+-- certificate. The problem ends with line_feed, and there are no words, not even in comments,
+-- between what `front_read` uses of it and the report
 pub record IsPrintedFor (format : Format) (text : List ℕ) : Type 0 where
   pub problem : List ℕ
   pub parts : Parts

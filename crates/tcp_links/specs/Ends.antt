@@ -46,8 +46,9 @@ pub record HasLostOver (node : ℕ → ℕ) (budget : ℕ) (begun : List Wire) (
   pub there : AreThere node budget begun started wires now round
   pub lost : IsLostExchange wires left now last
 
--- this exchange sent from one node to another all that the agents there had sent to the other's and
--- no earlier exchange had drained; what came is not whole frames of letters, and this is the first
+-- after `round` rounds, an exchange was broken off before any link had passed anything; in it one
+-- node sent to another all that its own agents had sent to agents of the other node and that no
+-- earlier exchange had drained; what came is not whole frames of letters, and this is the first
 -- byte that differs
 pub record HasOtherByte (nodes : ℕ) (node : ℕ → ℕ) (budget : ℕ) (begun : List Wire) (started : List CellState) (left : List Wire) (last : List CellState) (round from_node to_node place : ℕ) (sent taken : Option ℕ) : Type 0 where
   pub behind : HasLostOver node budget begun started round left last
@@ -94,17 +95,17 @@ module _ {X : Type 0} {F : X → Type 0} where
     pub exchange : IsExchange node wires left now ready
     pub partly : ArePartlyPlayed meaning no_visit_memory IsMoved sprint_limit workers ready last
 
-  -- how far cells that had started had come when they met this fault, with the links and their
-  -- inner ends left so
+  -- what holds when cells that had started met this fault: the rounds in which they had been
+  -- played, and the state in which the links and their inner ends were left
   abbrev pub IsFaultOver : (DynBox X Global F → View) → ℕ → (ℕ → ℕ) → ℕ → ℕ → List Wire → List CellState → List Wire → List InnerEnds → List (Cell X F) → NodeFault → Type 0
   IsFaultOver meaning nodes node workers budget begun started left ends last Failed = (round : ℕ) × HasLostOver node budget begun started round left (states_of meaning last)
   IsFaultOver meaning nodes node workers budget begun started left ends last (Differs d) = IsDifference nodes node budget begun started left ends (states_of meaning last) d
   IsFaultOver meaning nodes node workers budget begun started left ends last NoMemory = HasPartExchange node budget begun started left (states_of meaning last) ⊎ HavePlayedPartly meaning node workers budget begun started left last
 
 module _ {W : Type 0} where
-  -- agents that were made in this way have started, their cells were played in rounds over the
-  -- links of the plan, and one exchange more and a last settling followed; each exchange took on
-  -- each link exactly what it sent there
+  -- agents made with these views have started; their cells were played in rounds over the links of
+  -- the plan, and one exchange more and a last settling followed; on each link exactly what each
+  -- exchange drained arrived
   pub record HasHeldOver (budget : ℕ) (made : List View) (p : NodePlan W) (last : List CellState) : Type 0 where
     pub started : List CellState
     pub starts : AreStarted made started

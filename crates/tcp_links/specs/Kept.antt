@@ -25,13 +25,13 @@ pub record IsNoted (w : Wire) (ends : InnerEnds) : Type 0 where
   pub drained : IsPrefix (flat_map (λ p. p.drained) w.passages) (taken_from ends.drain)
   pub arrived : IsPrefix (flat_map (λ p. p.arrived) w.passages) (sent_on ends.feed)
 
--- what a link has noted is the first part of all that was ever drained of it, and all that was ever
--- fed to its receiver
+-- what a link has noted is a first part of what was drained at its one inner end, and all that was
+-- fed to the other
 pub record IsFedNoted (w : Wire) (ends : InnerEnds) : Type 0 where
   pub drained : IsPrefix (flat_map (λ p. p.drained) w.passages) (taken_from ends.drain)
   pub arrived : flat_map (λ p. p.arrived) w.passages ≡ sent_on ends.feed
 
--- each link has noted all that was fed to its receiver
+-- each link has noted all that was fed to its inner end
 abbrev pub AreFedNoted : List Wire → List InnerEnds → Type 0
 AreFedNoted ws es = EachAre IsFedNoted ws es
 
@@ -39,7 +39,8 @@ AreFedNoted ws es = EachAre IsFedNoted ws es
 abbrev pub HasSameFeed : InnerEnds → InnerEnds → Type 0
 HasSameFeed before after = sent_on after.feed ≡ sent_on before.feed
 
--- each link has noted a first part of what went through its inner ends
+-- each link has noted a first part of what was drained at its one inner end, and of what was fed to
+-- the other
 abbrev pub AreNoted : List Wire → List InnerEnds → Type 0
 AreNoted ws es = EachAre IsNoted ws es
 

@@ -20,7 +20,8 @@ use Rattle.tcp_links.specs.Drains.{HasDrained}
 use Rattle.tcp_links.specs.Feeds.{AllWaits}
 use Rattle.node_exchange.specs.Passings.{Passing, emptied as emptied_of}
 
--- a link as an exchange passes it on: the same agents, and their nodes
+-- the `Passing` of a link between nodes: it names the link's two agents, and the nodes in which
+-- they are
 pub record IsPassingOf (node : ℕ → ℕ) (w : Wire) (p : Passing) : Type 0 where
   pub from : p.from ≡ w.sender
   pub to : p.to ≡ w.receiver

@@ -17,7 +17,8 @@ abbrev pub pair_words : List (List ℕ) → Context → List (List ℕ)
 pair_words names [] = []
 pair_words names (p ∷ ps) = name_in names p.0 ∷ decimal p.1 ∷ pair_words names ps
 
--- what a message says; agents of ADOPT send only messages of the last four kinds
+-- what a message says; agents of ADOPT send only VALUE, COST, THRESHOLD and TERMINATE, and for
+-- other messages there are no words
 abbrev pub message_words : List (List ℕ) → Message → List (List ℕ)
 message_words names (Token path) = []
 message_words names (Done visited) = []

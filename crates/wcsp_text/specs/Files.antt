@@ -17,7 +17,8 @@ use Rattle.wcsp_text.specs.Values.{IsValued, HasLeastValue}
 abbrev pub file_of : Dcop → TextFile
 file_of p = record (numbered_file p) { version = 2 }
 
--- a file is made from this network: it has the network's sizes, raised tables and bar
+-- a file is made from this network, which a WCSP text declares: it has the network's sizes, its
+-- tables, in which cells of at least top are raised to the hard cost, and its bar
 pub record IsOf (w : Network) (r : ReadWcsp) : Type 0 where
   pub file : r.file ≡ file_of r.file.problem
   pub sizes : r.file.problem.sizes ≡ w.sizes

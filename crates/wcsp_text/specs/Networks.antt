@@ -9,8 +9,8 @@ use Rattle.wcsp_text.specs.Words.{Word}
 use Rattle.wcsp_text.specs.Numbers.{Place, number, fails, read_on, onto}
 use Rattle.wcsp_text.specs.Functions.{Function, functions_read}
 
--- a network: the cost from which on an assignment is forbidden, the size of each variable, and the
--- functions
+-- a network, which a WCSP text declares: top, which is the cost from which on an assignment is
+-- forbidden; the size of each variable; and the functions
 pub record Network : Type 0 where
   pub top : ℕ
   pub sizes : List ℕ

@@ -12,8 +12,8 @@ use crate::fault::{Fault, WcspKind, fault_before};
 use crate::word::next_word;
 use problem_text::{LF, LineEnd, line_behind};
 
-/// The line of the word after which `after` bytes of the text are left; 0 means the end of the
-/// text.
+/// The line of the word after which `after` bytes of the text are left; at the end of the text
+/// `after` is 0.
 pub fn line_of(bytes: &[u8], after: usize) -> u64
     ensures { result ≡ line_at bytes.now after }
 {

@@ -19,8 +19,9 @@ pub record Reader : Type 0 where
 abbrev pub fresh : ℕ → Reader
 fresh limit = record { limit = limit; ready = []; rest = []; place = 0; stuck = false }
 
--- a piece is taken: the payloads of all frames that are now whole are added, and the rest and its
--- position follow; a position from 2^64 - 1 up is kept as 2^64 - 1
+-- a reader takes a piece of bytes: the payloads of all frames that are now whole are added to those
+-- that are ready; the bytes after these frames are its rest, and where they begin is its place,
+-- which stays at `count_limit` if it is greater
 pub record Takes (before : Reader) (piece : List ℕ) (after : Reader) : Type 0 where
   pub payloads : List (List ℕ)
   pub whole : before.rest ++ piece ≡ framed_all payloads ++ after.rest

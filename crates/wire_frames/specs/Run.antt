@@ -45,8 +45,8 @@ pub record Splits (limit : ℕ) (stream : List ℕ) (payloads : List (List ℕ))
   pub within : All (λ p. length p ≤ limit) payloads
   pub ends : EndsAt limit rest stuck
 
--- the reader has read this stream, and has handed out these payloads of it; the rest of the stream
--- is its own, and so is the position
+-- the reader has read this stream, and has handed out these payloads of it; what follows the frames
+-- of all payloads, handed out or held, is the reader's rest, and its position is the reader's
 pub record HasRead (stream : List ℕ) (out : List (List ℕ)) (r : Reader) : Type 0 where
   pub splits : Splits r.limit stream (out ++ r.ready) r.rest r.stuck
   pub place : r.place ≡ min (length (framed_all (out ++ r.ready))) count_limit

@@ -9,7 +9,7 @@ use std::alloc::Global;
 /// The greatest length of a payload in bytes, 2^24.
 pub const MAX_PAYLOAD: u32 = 16_777_216;
 
-/// The constant equals `payload_limit` of the definitions.
+/// [`MAX_PAYLOAD`] equals `payload_limit` of the definitions.
 pub fn payloads_agree()
     ensures { MAX_PAYLOAD ≡ payload_limit }
 {}

@@ -12,7 +12,7 @@ HasDialCause old new (Ok value) = new ≡ old
 HasDialCause old new (Err Failed) = (old ≤ new) × Rose old new
 HasDialCause old new (Err NoMemory) = new ≡ old
 
--- the bytes are not told, or there are none
+-- these bytes are not told; or they are told, and there are none
 abbrev pub IsNothing : Option (List ℕ) → Type 0
 IsNothing None = Unit {0}
 IsNothing (Some text) = text ≡ []

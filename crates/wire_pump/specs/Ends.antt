@@ -5,8 +5,9 @@ use Rattle.wire_pump.specs.Wire.{Told, told_more, counted_more}
 use Rattle.wire_pump.specs.declared.ends.Lane.{Lane}
 use Rattle.wire_pump.specs.declared.ends.Ends.{Ends}
 
--- what the sending end had sent, and the receiving end had received, when a direction was new: the
--- bytes, if they are told, and how many they were
+-- where a direction starts, which is the way of the bytes from one end to the other: the bytes that
+-- the one end had sent until then, and those that the other had received, if they are told; and
+-- their numbers
 pub record Before : Type 0 where
   pub sent : Option (List ℕ)
   pub received : Option (List ℕ)
@@ -18,8 +19,9 @@ pub record Before : Type 0 where
 abbrev pub start_of : Told → Told → Before
 start_of from to = record { sent = from.sent; received = to.received; sent_count = from.sent_count; received_count = to.received_count }
 
--- since the start, those bytes of this direction were sent that went out, and those received that
--- came in: exactly these if the bytes are told, and as many if the counts are below 2^64 - 1
+-- since the start of a direction, its sending end has sent the first `went` of the direction's
+-- bytes, and its receiving end has received `came` bytes, which stand first in the direction's
+-- buffer: exactly these if the bytes are told, and as many if the counts are below 2^64 - 1
 pub record HasMoved (before : Before) (from to : Told) (lane : Lane) : Type 0 where
   pub sent : from.sent ≡ told_more before.sent (take lane.went lane.bytes.items)
   pub received : to.received ≡ told_more before.received (take lane.came lane.buffer.items)

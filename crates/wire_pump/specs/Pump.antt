@@ -29,9 +29,10 @@ pub record HaveAll (a b : Told) : Type 0 where
   pub back : HasAll b a
 
 module _ {W : Type 0} (told : W → Told) (is_joined : W → W → Type 0) where
-  -- the pump ran from this state to its end: for any start of a direction from which this state was
-  -- reached, all bytes of the direction have passed since that start; wires that were joined still
-  -- are
+  -- the pump ran from this state to its end: whatever is taken as the start of a direction, if
+  -- `HasMoved` holds from that start to this state, then all bytes of the direction have passed
+  -- between that start and the end; if the two wires were joined, as the ends of one connection,
+  -- they still are
   pub record EndsFrom (e : Ends W) (p : Pumped W) : Type 0 where
     pub there : (before : Before) → HasMoved before (told e.first) (told e.second) e.there → HasPassed before (told p.first) (told p.second) e.there.bytes.items p.at_second
     pub back : (before : Before) → HasMoved before (told e.second) (told e.first) e.back → HasPassed before (told p.second) (told p.first) e.back.bytes.items p.at_first

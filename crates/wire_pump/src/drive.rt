@@ -14,8 +14,8 @@ use std::sync::Wait;
 use std::thread::Threads;
 use std::time::Clock;
 
-/// Sends both lists over two wires of this dialer, which drives the [`Pump`] until it is done. A
-/// wire that failed is not charged to the dialer. It may wait.
+/// Sends one list of bytes at each of two wires of this dialer, which drives the [`Pump`] until it
+/// is done. A wire that failed is not charged to the dialer. It may wait.
 ///
 /// # Errors
 ///

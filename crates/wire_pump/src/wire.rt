@@ -57,8 +57,9 @@ pub trait Wire: Drop {
         ensures registered { OnPending result (IsArmed cx.new) }
         ensures kept { Keeps cx.old cx.new };
 
-    /// Looks at both ends together. If the two are joined, each is then known to have received a
-    /// prefix of what the other has sent. If they are apart, neither changes. It takes no memory.
+    /// Lets a proof look at two ends together: if the two are joined, each has received a prefix of
+    /// what the other has sent. What they tell does not change. If they are apart, neither changes.
+    /// It takes no memory.
     fn beside(&mut self, other: &mut Self)
         ensures told { (told self.new ≡ told self.old) × (told other.new ≡ told other.old) }
         ensures joined { is_joined self.old other.old → is_joined self.new other.new }

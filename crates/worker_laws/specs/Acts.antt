@@ -10,7 +10,9 @@ use Rattle.protocol_steps.specs.Deeds.{takes_of, greatest_of, posted_to, gained_
 use Rattle.worker_laws.specs.Cells.{CellState, peers, grown}
 use Rattle.worker_laws.specs.Visits.{IsFrom, IsTo}
 
--- an activation of agent `me` that its account allows: the agent has not ended, takes at least one message from each of some peers, in ascending order of the peers, and sends only to peers; its stamp is right
+-- an activation of agent `me` that may follow its account: the agent has not ended, takes at least
+-- one message from each of some peers, in ascending order of the peers, and sends only to peers;
+-- its stamp is right
 pub record IsAct (me : ℕ) (among : List ℕ) (x : Account) (d : Deed) : Type 0 where
   pub own : d.agent ≡ me
   pub live : ended_of x.view ≡ false

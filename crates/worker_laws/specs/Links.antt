@@ -20,12 +20,15 @@ pub record IsLinkExchanged (w : Wire) (to from : CellState) : Type 0 where
 abbrev pub LeadsNone : List Wire → ℕ → ℕ → Type 0
 LeadsNone ws i j = (k : ℕ) (w : Wire) → slice_get ws k ≡ Some w → w.receiver ≡ i → w.sender ≢ j
 
--- agents in different nodes with no link between them have sent nothing on it, and taken nothing
+-- if no link leads from one agent to an agent in another node, the one has sent nothing to the
+-- other, and the other has taken nothing from it
 abbrev pub SayNothing : (ℕ → ℕ) → List Wire → List CellState → Type 0
 SayNothing node wires cells = (i j : ℕ) (to from : CellState) → slice_get cells i ≡ Some to → slice_get cells j ≡ Some from → node i ≢ node j → LeadsNone wires i j
     → (lane i from.sent ≡ []) × (lane j to.taken ≡ [])
 
--- if each link was exchanged, and agents without a link sent nothing, the links of all agents were exchanged
+-- if no two links of a list lead from the same agent to the same agent, each of them was exchanged,
+-- and agents of different nodes passed nothing where no link of the list leads, then `IsExchanged`
+-- holds of every two agents of different nodes
 abbrev pub LinksAreExchanged : Type 0
 LinksAreExchanged = (node : ℕ → ℕ) (wires : List Wire) (cells : List CellState) → AreApart wires
     → ((k : ℕ) (w : Wire) (to from : CellState) → slice_get wires k ≡ Some w → slice_get cells w.receiver ≡ Some to → slice_get cells w.sender ≡ Some from → IsLinkExchanged w to from)

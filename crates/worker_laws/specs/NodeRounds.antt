@@ -24,7 +24,8 @@ pub record IsNodeEnd (node : ℕ → ℕ) (wires more : List Wire) (before last 
   pub exchange : IsExchange node wires more before ready
   pub settling : IsSettling node ready last
 
--- cells were played in such rounds, from these links between nodes to those
+-- cells were played in such rounds, in which the links between nodes went from this state to that
+-- one
 pub record ArePlayedOver (node : ℕ → ℕ) (budget : ℕ) (begun : List Wire) (started : List CellState) (wires : List Wire) (now : List CellState) : Type 0 where
   pub rounds : List (List CellState)
   pub are : AreNodeRounds node budget begun started rounds wires now

@@ -29,7 +29,9 @@ pub record AreBrokenOver (node : ℕ → ℕ) (budget : ℕ) (begun : List Wire)
   pub moved : EachAre IsMoved ready stood
   pub taken : EachAre HasOnlyTaken stood now
 
--- no stamp of such a cell, nor of what it took last, is above the number of messages that were taken with a step, if in each exchange, and in one more at the end, exactly what was sent arrived
+-- no stamp of a cell that was played until a round broke off, nor of what it took without a step,
+-- is above the number of messages that were taken with a step, if in each exchange, and in one more
+-- at the end, exactly what was sent arrived
 abbrev pub NodeStampsAreFew : Type 0
 NodeStampsAreFew = (node : ℕ → ℕ) (budget : ℕ) (made : List View) (begun wires more : List Wire) (cells stood now last : List CellState) → AreStarted made cells
     → AreBrokenOver node budget begun cells wires stood now → IsNodeEnd node wires more now last → HaveHeld more

@@ -20,7 +20,9 @@ pub record IsSprint (visits : ℕ) (before after : CellState) : Type 0 where
   pub bounded : All TakesFew deeds
   pub served : ended_of before.view ≡ false → (j : ℕ) → known_from j before.known ≤ length (gained_from j (moved before deeds).gains)
 
--- how visits make up sprints
+-- how visits make up sprints: the first visit of a cell whose agent has not ended is a sprint; a
+-- sprint with one more visit is a sprint; a sprint within a limit of visits is one within any
+-- greater limit; and if the agent has ended, a sprint may have no visit at all
 pub record SprintsAreVisits : Type 0 where
   pub first : (before after : CellState) (count : ℕ) → ended_of before.view ≡ false → IsVisit before count after → IsSprint 1 before after
   pub next : (visits count : ℕ) (before middle after : CellState) → IsSprint visits before middle → IsVisit middle count after → IsSprint (visits + 1) before after

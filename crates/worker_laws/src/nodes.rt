@@ -13,8 +13,8 @@ pub fn nodes_make_a_run()
     ensures { NodesMakeARun }
 {}
 
-/// Rounds of cells in nodes are rounds as in one node, with every link settled at their end, if in
-/// each exchange exactly what was sent on each link between nodes arrived.
+/// Rounds of cells in nodes are rounds as in one node, and at their end every link is settled, if
+/// in each exchange exactly what was sent on each link between nodes arrived.
 pub fn nodes_are_one()
     ensures { NodesAreOne }
 {}

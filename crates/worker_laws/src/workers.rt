@@ -43,8 +43,9 @@ pub fn one_node_is_all()
     ensures { OneNodeIsAll }
 {}
 
-/// The visits of one cell in a round are a sprint: the first visit, one more visit, fewer visits
-/// than allowed, and no visit of a cell whose agent has ended.
+/// The first visit of a cell whose agent has not ended is a sprint; a sprint with one more visit is
+/// a sprint; a sprint within a limit of visits is one within any greater limit; and if the agent
+/// has ended, a sprint may have no visit at all.
 pub fn sprints_are_visits()
     ensures { SprintsAreVisits }
 {}

@@ -51,7 +51,7 @@ impl Cell {
         )
     }
 
-    /// Settles the link from this cell to a neighbour whose end is in no cell, as
+    /// Settles the link from this cell to a neighbour, whose end of the link is given, as
     /// [`Cell::settle_to`] does.
     pub fn settle_tail(&mut self, to: VarId, head: &mut LinkHead<Sealed>) -> u32
         requires cell { IsCell (λ b. meaning b) self.old }
@@ -70,7 +70,7 @@ impl Cell {
         settle_tail_to(self.tails.as_mut_slice(), to, 0, head)
     }
 
-    /// Settles the link to this cell from a neighbour whose end is in no cell, as
+    /// Settles the link to this cell from a neighbour, whose end of the link is given, as
     /// [`Cell::settle_to`] does.
     pub fn settle_head(&mut self, from: VarId, tail: &mut LinkTail<Sealed>) -> u32
         requires cell { IsCell (λ b. meaning b) self.old }
