@@ -35,7 +35,7 @@ use wire_pump::Dialer;
 /// With any number of nodes [`NodeFault::NoMemory`] if memory runs out; with one node there is no
 /// other fault. With more, [`NodeFault::Failed`] if the dialer gave no wires or a wire failed,
 /// which its count of faults shows; and [`NodeFault::Differs`] if what a node received differs from
-/// what another one sent, which happens only if the dialer gave wires and is not honest.
+/// what another one sent, which happens only if the dialer is not honest and there is a new wire.
 pub fn settle_for<R, D, G>(
     crew: &Crew<R, G>,
     alloc: Global,
