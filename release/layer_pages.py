@@ -74,8 +74,9 @@ def link(path: Path, line: int) -> str:
 DEFINITIONS = Kind(
     "definitions",
     "Definitions",
-    "The pages below have all definitions that clauses of public calls cite or rest on, each with its sentence, file and line. The sentence is short; if it "
-    "differs from the file, the file decides. Numbers are plain numbers without an upper end, and a list type is a list.",
+    "A clause is what is proved of a public call. The pages below have each definition that a clause cites, and each that such a definition rests on, with "
+    "its sentence, file and line; other definitions are only named, below the table of their crate. The sentence is short; if it differs from the file, the "
+    "file decides. Numbers are natural numbers without an upper limit, and each list type of the code is a plain list.",
     definitions_of,
 )
 CALLS = Kind(
