@@ -1,6 +1,6 @@
 //! Whether workers share the agents of a run.
 
-ghost use Rattle.std.specs.Prelude.{◌<◌};
+ghost use Rattle.std.specs.Prelude.{◌<◌, length};
 ghost use Rattle.pseudotree.specs.Pseudotree.{IsPseudotreeOf};
 ghost use Rattle.delivery_core.specs.Agents.{IsStartFor};
 
@@ -13,7 +13,7 @@ use std::thread::Threads;
 
 /// How many cells of joined tables take as long as what threads need for one agent: its cell, and
 /// the buffers of its links.
-const AGENT_CELLS: u64 = 8_192;
+const AGENT_CELLS: u64 = 16_384;
 
 /// How many cells of joined tables take as long as starting the threads of a run.
 const THREAD_CELLS: u64 = 1_048_576;
@@ -58,8 +58,8 @@ fn cells_of_threads(agents: usize) -> u64 {
         .saturating_add(THREAD_CELLS)
 }
 
-/// How many cells of joined tables threads save at most on a tree: all but those of the greatest
-/// table of each depth, as tables of one depth can be joined concurrently.
+/// How many cells of joined tables threads save at most on a tree: all that they may share, but not
+/// those of the greatest table of each depth. Tables of one depth can be joined concurrently.
 fn saved_cells(alloc: Global, problem: &Problem, tree: &Tree) -> Result<u64, NoMemory>
     requires { IsPseudotreeOf problem.now tree.now }
 {
@@ -67,11 +67,23 @@ fn saved_cells(alloc: Global, problem: &Problem, tree: &Tree) -> Result<u64, NoM
     let mut total: u64 = 0;
     for index in 0..problem.sizes.as_slice().len() {
         let var = VarId(index as u32);
-        let cells = joined_cells(tree, problem, var);
+        let cells = shared_cells(problem, tree, var);
         total = total.saturating_add(cells);
         put_greatest(&mut greatest, tree.path(var).as_slice().len(), cells)?;
     }
     Ok(total.saturating_sub(sum_of(greatest.as_slice())))
+}
+
+/// How many cells of an agent's joined table threads may share: none if it has no children. Such an
+/// agent joins its table at its start, and one thread starts all agents.
+fn shared_cells(problem: &Problem, tree: &Tree, var: VarId) -> u64
+    requires tree { IsPseudotreeOf problem.now tree.now }
+    requires within { var < length problem.now.sizes }
+{
+    if tree.children(var).as_slice().is_empty() {
+        return 0;
+    }
+    joined_cells(tree, problem, var)
 }
 
 /// Puts the cells of a table at this depth among the greatest of each depth.
