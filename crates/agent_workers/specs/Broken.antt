@@ -88,8 +88,8 @@ module _ {X : Type 0} {F : X → Type 0} where
     pub came : EachAre (StandsOrFails meaning fault) stood after
     pub few : failures after ≤ most_failed
 
-  -- cells that had started were played in rounds under a budget, and then in one more round by at
-  -- most `workers` workers, which was broken off
+  -- cells that had started were played in rounds under a budget, and then in a part of one more
+  -- round; at most `workers` cells have failed in it
   pub record HaveBrokenOff (meaning : DynBox X Global F → View) (fault : VisitFault) (workers budget : ℕ) (started : List CellState) (after : List (Cell X F)) : Type 0 where
     pub before : List CellState
     pub played : ArePlayed budget started before

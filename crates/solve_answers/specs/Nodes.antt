@@ -68,8 +68,8 @@ abbrev pub IsFaultNamed : ℕ → NodeFault → Type 0
 IsFaultNamed count (Differs (Message from to at sent taken)) = (from < count) × (to < count)
 IsFaultNamed count fault = Unit {0}
 
--- this answer reports a difference that the agents of a task reached, in this many nodes, on a file
--- that declares this
+-- this answer reports a difference that the agents of a task may reach, in some run in this many
+-- nodes, on a file that declares this
 pub record TellsDifference (task : FileTask) (nodes : ℕ) (d : Declared) (answer : Answer) : Type 0 where
   pub file : TextFile
   pub whole : IsProblem file.problem
@@ -78,8 +78,8 @@ pub record TellsDifference (task : FileTask) (nodes : ℕ) (d : Declared) (answe
   pub differed : HaveDiffered (problem_solved file) (IsPhaseOf task (problem_solved file)) nodes difference
   pub told : answer ≡ difference_answer file.names difference
 
--- an answer about the links between the nodes in which a task is done: they failed, or what was
--- taken is not what was sent
+-- an answer about the links between the nodes in which a task is done: that they failed, or a
+-- difference that agents may reach
 abbrev pub IsOfLinks : FileTask → ℕ → Declared → Answer → Type 0
 IsOfLinks task nodes d answer = (answer ≡ answers.Link) ⊎ TellsDifference task nodes d answer
 
