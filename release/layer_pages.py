@@ -82,8 +82,8 @@ DEFINITIONS = Kind(
 CALLS = Kind(
     "calls",
     "Public calls",
-    "The pages below have each public call with the first sentence of its comment, and the clauses that the gate has proved of it, by name, each with the "
-    "definitions that it cites. A clause without a name is shown as `ensures`.",
+    "The pages below have each public call with the first sentence of its comment, and the names of its clauses (what is "
+    "[proved](../assurance/reading.md) of it), each with the definitions that it cites. A clause without a name is shown as `ensures`.",
     calls_of,
 )
 
@@ -97,7 +97,7 @@ def pages(sources: Sources) -> dict[Path, str]:
         by_layer: dict[str, list[str]] = {}
         for crate in sections:
             by_layer.setdefault(layers.names[crate], []).append(crate)
-        index = [f"# {kind.title}\n", MADE, f"{kind.opening}\n", "Each layer of crates has a page, from below:\n"]
+        index = [f"# {kind.title}\n", MADE, f"{kind.opening}\n", "Each layer of crates has a page; the lowest layer comes first:\n"]
         entries = [f"All {kind.title.lower()}: {inside(kind.index)}"]
         for layer, crates in by_layer.items():
             page = PAGES / kind.folder / f"{layers.short(layer)}.md"
