@@ -22,8 +22,8 @@ module _ {W : Type 0} (told : W → Told) (is_joined : W → W → Type 0) where
     pub second : CountsLater (told before.1) (told after.1)
     pub joined : is_joined before.0 before.1 → is_joined after.0 after.1
 
-  -- pairs were taken from the front of the list one by one; those that were used stand at the end
-  -- of the list, in the same order; the last ones that were taken, at most this many, are gone
+  -- some pairs were taken from the front of the list. The first of them were used and put at its
+  -- end, in the same order; the others, at most `most`, are gone
   pub record AreTurned (most : ℕ) (before after : List (W × W)) : Type 0 where
     pub taken : List (W × W)
     pub used : List (W × W)

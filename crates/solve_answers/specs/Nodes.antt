@@ -90,7 +90,8 @@ TellsProblem (Some (File format task)) drill (Whole bytes) done told = (done ≡
 TellsProblem None (Some drill) Unread done told = (done ≡ drill.task) × (told ≡ told_of (made_for drill) None)
 TellsProblem task drill input done told = ⊥
 
--- an answer about links to words that ask for more than one node, with words and text accepted
+-- to words that ask for more than one node, an answer about the links between the nodes; the words
+-- and the text are accepted
 pub record IsLinkAnswer (words : List (List ℕ)) (input : Input) (answer : Answer) : Type 0 where
   pub asks : AskForNodes words
   pub task : FileTask

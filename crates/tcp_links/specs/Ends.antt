@@ -57,8 +57,8 @@ pub record HasOtherByte (nodes : ℕ) (node : ℕ → ℕ) (budget : ℕ) (begun
   pub other : IsByteBetween nodes passings from_node to_node place sent taken
 
 -- after the rounds, one exchange more and a last settling, these are the first two envelopes that
--- differ, on the lowest link that differs; each link had noted all that went through its inner
--- ends, and then this one has become a new one
+-- differ, on the lowest link that differs. Each link's passages had all that went through its inner
+-- ends; then the link that differs was replaced by a new one (`IsRenewed`)
 pub record HasOtherMessage (node : ℕ → ℕ) (budget : ℕ) (begun : List Wire) (started : List CellState) (left : List Wire) (ends : List InnerEnds) (last : List CellState) (from to at : ℕ) (sent taken : Option (ℕ × Sent)) : Type 0 where
   pub count : ℕ
   pub wires : List Wire
