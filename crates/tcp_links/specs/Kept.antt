@@ -69,4 +69,5 @@ MayKeepAll before ps after = (k : ℕ) (v : Wire) (p : Passing) (w : Wire)
 pub record AreFedButOne (ws : List Wire) (es : List InnerEnds) : Type 0 where
   pub place : ℕ
   pub noted : AreNoted ws es
-  pub fed : (k : ℕ) (w : Wire) (e : InnerEnds) → slice_get ws k ≡ Some w → slice_get es k ≡ Some e → k ≢ place → IsFedNoted w e
+  pub fed : (k : ℕ) (w : Wire) (e : InnerEnds)
+      → slice_get ws k ≡ Some w → slice_get es k ≡ Some e → k ≢ place → IsFedNoted w e
