@@ -18,7 +18,7 @@ use Rattle.worker_laws.specs.Cells.{CellState, Lane, peers, lane, EachAre}
 use Rattle.worker_laws.specs.Visits.{IsQuiet}
 use Rattle.worker_laws.specs.OneNode.{home}
 use Rattle.worker_laws.proofs.LaneLaws.{lane_none}
-use Rattle.worker_laws.proofs.EachLaws.{there, each_on, each_long}
+use Rattle.worker_laws.proofs.EachLaws.{there, each_on, each_back, each_long}
 use Rattle.worker_laws.specs.Wires.{Passage, Wire, IsSame, HasHeld, HaveHeld, AreApart, HasPassed}
 use Rattle.worker_laws.specs.Exchanges.{IsExchange}
 use Rattle.worker_laws.specs.Links.{IsLinkExchanged, LeadsNone, SayNothing}
@@ -36,6 +36,7 @@ use Rattle.node_exchange.specs.Passings.{Passing, SamePassing, AreAcross, Nothin
 use Rattle.node_exchange.specs.declared.fault.PassFault.{PassFault}
 use Rattle.node_exchange.specs.declared.fault.PassFault.TheVariants.{Failed, Bytes, NoMemory}
 use Rattle.node_exchange.specs.Faults.{IsByteBetween, IsByteFault, IsNoDifference as passes_no_difference}
+use Rattle.node_exchange.proofs.LetterLaws.{all_same}
 use Rattle.tcp_links.specs.declared.plan.InnerEnds.{InnerEnds}
 use Rattle.tcp_links.specs.declared.plan.NodePlan.{NodePlan}
 use Rattle.tcp_links.specs.Plans.{AreOrdered, IsBetween, pair_count, IsPlan}
@@ -46,6 +47,8 @@ use Rattle.tcp_links.specs.Faults.{node_fault, IsOtherFault}
 use Rattle.tcp_links.specs.Woven.{IsPassingOf, IsLinkIdle, AreLinksIdle, AreLinksOf, AreEmptied, IsWoven, AreWoven, CanDrainAll, CanFeed, CanFeedAll, AreStill, SentWasDrained, FedWasTaken, SentIsDrained, FedIsTaken, HaveCaughtUp, HasDrainedLink, HaveDrained, HasFedLink, HaveFed}
 use Rattle.tcp_links.specs.Broken.{IsPartExchange, IsLostExchange}
 use Rattle.tcp_links.specs.Over.{IsDrainedOf, HasExchanged, IsExchangeFault}
+use Rattle.tcp_links.specs.Carried.{drained_at as drained_from, AreTaken}
+use Rattle.tcp_links.proofs.CarriedLaws.{drained_one, links_drained}
 use Rattle.tcp_links.proofs.OrderLaws.{ordered_passed}
 use Rattle.tcp_links.proofs.DrainLaws.{tail_still}
 use Rattle.tcp_links.proofs.FeedLaws.{head_still, heads_still}
@@ -304,6 +307,17 @@ module _ {X : Type 0} {F : X → Type 0} (M : DynBox X Global F → View) where
           ∙ sym on.link.more.taken ∙ on.link.all ∙ ap (λ (x : Cell X F). lane w.receiver (state_of M x).sent) same ∙ ap (λ (x : CellState). lane w.receiver x.sent) c.2;
     })
 
+    -- what the exchange drained of each link is what was taken of it
+    pub taken_one : AreTaken es ds (drained_from (ps ∷ []))
+    taken_one = λ k a b p q.
+        let w = each_back IsLinkKept ws es (woven_kept nodes agents ws es cells woven) k a p in
+        let x = each_on (IsDrainedOf (home nodes agents) (states_of M cells)) ws ps all_drained k w.0 w.1 in
+        let note = to_note ps (all_same ps) k w.0 b x.0 w.1 q x.1 in
+        ap (λ (us : List (ℕ × Message)). taken_from a.drain ++ us) (drained_one ps k x.0 x.1) ∙ ap (λ (us : List (ℕ × Message)). us ++ x.0.drained) (sym w.2.drained) ∙ note.drained
+
+    pub passings_are : EachAre (IsPassingOf (home nodes agents)) ws ps
+    passings_are = links_drained (home nodes agents) (states_of M cells) ws ps all_drained
+
     -- a fault of passing, before any link has passed anything
     pub fault_on : {W : Type 0} (round : ℕ) (p : NodePlan W) (left : List Wire) (last : List (Cell X F)) (f : PassFault) → p.nodes ≡ nodes → p.agents ≡ agents → p.kept.items ≡ ws
         → IsLostExchange p.kept.items left (states_of M cells) (states_of M last) → IsPartExchange p.kept.items left (states_of M cells) (states_of M last)
@@ -410,6 +424,15 @@ module _ {X : Type 0} {F : X → Type 0} (M : DynBox X Global F → View) where
             takes = subst (λ (n : ℕ). Contains (peers (state_of M to).taken) n) (sym l.sender) (subst (λ (ls : List Lane). Contains (peers ls) l.wire.sender) (sym t.quiet.taken) on.was.takes);
             kept = l.kept;
           }
+
+      -- feeding leaves what was drained as it is
+      pub drain_stays : (k : ℕ) (d f : InnerEnds) → slice_get ds k ≡ Some d → slice_get fs k ≡ Some f → f.drain ≡ d.drain
+      drain_stays k d f at_d at_f =
+          let inside = slice_get_within fs k f at_f in
+          let sizes = fed.size ∙ drained.size ∙ woven.ends ∙ sym fed.wires in
+          let v = there vs k (omega (arith, inside, sizes)) in
+          let l = fed_at k v.0 v.1 in
+          ap (λ (x : InnerEnds). x.drain) (sym (one_at fs k l.ends f l.ends_is at_f)) ∙ l.link.drain ∙ ap (λ (x : InnerEnds). x.drain) (one_at ds k l.on.new d l.on.new_is at_d)
 
       -- the exchange left nothing undrained, and it told right where nothing waits
       pub caught_up : (seen : List ℕ) → seen ≡ map (λ c. length (state_of M c).journal) last → HaveCaughtUp M seen vs fs last

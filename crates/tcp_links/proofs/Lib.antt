@@ -9,6 +9,8 @@ mod PartLaws
 mod LeftLaws
 mod NotedLaws
 mod LostLaws
+mod CarriedLaws
+mod SentLaws
 mod OverLaws
 mod SharedLaws
 mod RunLaws

@@ -5,6 +5,7 @@ pub mod Left
 pub mod Drains
 pub mod Feeds
 pub mod Woven
+pub mod Carried
 pub mod Linked
 pub mod Broken
 pub mod Over

@@ -8,6 +8,7 @@ ghost use Rattle.agent_workers.specs.Settled.{StaysQuiet};
 ghost use Rattle.node_exchange.specs.Honest.{HaveReceivedAll};
 ghost use Rattle.node_exchange.specs.Turned.{AreTurned};
 ghost use Rattle.tcp_links.specs.Left.{KeepsPlan, pairs_lost_by, AreNotedAfter};
+ghost use Rattle.tcp_links.specs.Carried.{HaveCarriedTaken};
 ghost use Rattle.tcp_links.specs.Plans.{IsPlan, IsHonest};
 ghost use Rattle.tcp_links.specs.Faults.{HasNodeCause, IsOtherFault};
 ghost use Rattle.tcp_links.specs.Woven.{AreWoven};
@@ -53,6 +54,7 @@ where
     ensures noted { IfErr result (λ e. AreNotedAfter e plan.new.kept.items plan.new.ends.items) }
     ensures wires { AreTurned D.W.told D.W.is_joined (pairs_lost_by result)
         plan.old.wires.items plan.new.wires.items }
+    ensures letters { HaveCarriedTaken D.W.told D.W.is_joined plan.old plan.new result }
     ensures exchanged { OnOk result (HasExchanged (λ b. meaning (b.vtable, b.value)) plan.old cells.old plan.new cells.new) }
     ensures cause { HasNodeCause (D.faults dialer.old) (D.faults dialer.new) result }
     ensures dialer { D.is_honest dialer.old → D.is_honest dialer.new }

@@ -10,6 +10,7 @@ ghost use Rattle.agent_workers.specs.Joined.{states_of, EachIs, EachBecomes, Has
 ghost use Rattle.node_exchange.specs.Honest.{HaveReceivedAll};
 ghost use Rattle.node_exchange.specs.Turned.{AreTurned};
 ghost use Rattle.tcp_links.specs.Left.{KeepsPlan, pairs_lost_by, AreNotedAfter};
+ghost use Rattle.tcp_links.specs.Carried.{HaveCarriedTaken};
 ghost use Rattle.tcp_links.specs.Plans.{IsHonest};
 ghost use Rattle.tcp_links.specs.Faults.{HasNodeCause, IsOtherFault};
 ghost use Rattle.tcp_links.specs.Over.{IsPlanOver, IsRoundOver, IsRoundFault, ArePlayedTo};
@@ -70,6 +71,7 @@ where
     ensures noted { IfErr result (λ e. AreNotedAfter e plan.new.kept.items plan.new.ends.items) }
     ensures wires { AreTurned D.W.told D.W.is_joined (pairs_lost_by result)
         plan.old.wires.items plan.new.wires.items }
+    ensures letters { HaveCarriedTaken D.W.told D.W.is_joined plan.old plan.new result }
     ensures over { OnOk result (IsPlanOver (λ b. meaning (b.vtable, b.value)) plan.old plan.new cells.new) }
     ensures played { IfOk result (λ play. ArePlayedTo (λ b. meaning (b.vtable, b.value)) (home plan.old.nodes plan.old.agents) budget plan.old.kept.items
         (states_of (λ b. meaning (b.vtable, b.value)) cells.old) plan.new.kept.items cells.new play.rounds play.end) }
@@ -135,6 +137,7 @@ where
     ensures noted { IfErr result (λ e. AreNotedAfter e plan.new.kept.items plan.new.ends.items) }
     ensures wires { AreTurned D.W.told D.W.is_joined (pairs_lost_by result)
         plan.old.wires.items plan.new.wires.items }
+    ensures letters { HaveCarriedTaken D.W.told D.W.is_joined plan.old plan.new result }
     ensures over { OnOk result (IsPlanOver (λ b. meaning (b.vtable, b.value)) plan.old plan.new cells.new) }
     ensures round { IfOk result (IsRoundOver (λ b. meaning (b.vtable, b.value)) plan.old cells.old plan.new cells.new) }
     ensures parts { IfOk result (λ o. IfSome o (λ taken. IsSharedOver (λ b. meaning (b.vtable, b.value)) workers plan.old.nodes cells.old cells.new)) }

@@ -13,6 +13,7 @@ ghost use Rattle.tcp_links.specs.Left.{IsTakenOut, KeepsPlan, pairs_lost_by, Are
 ghost use Rattle.tcp_links.specs.Plans.{pair_count, IsPlan, IsHonest, IsNewPlan, IsSamePlan};
 ghost use Rattle.worker_laws.specs.OneNode.{home};
 ghost use Rattle.tcp_links.specs.Woven.{AreLinksIdle};
+ghost use Rattle.tcp_links.specs.Carried.{HaveCarriedSent};
 ghost use Rattle.tcp_links.specs.Linked.{AreLinkedOver};
 ghost use Rattle.tcp_links.specs.Ends.{HasHeldOver, IsLeftBy};
 ghost use Rattle.tcp_links.specs.Shared.{HaveRunSharedOver};
@@ -59,7 +60,9 @@ use wire_pump::{Dialer, Wire};
 /// plan are as whole rounds and exchanges left them, and then a round, an exchange or both that may
 /// have been broken off. If memory ran out before all agents had started, no link has passed
 /// anything, and the inner ends are as they were. The clauses `same` and `sound` say what else is
-/// left of the cells, and `keeps`, `noted` and `wires` of the plan. Only the link whose
+/// left of the cells, and `keeps`, `noted` and `wires` of the plan. The clause `letters` says what
+/// the wires have carried: a first part of what the exchanges have drained, in frames, and without
+/// a fault all that the cells have sent on the links. Only the link whose
 /// [`Difference::Message`] is answered is like a new one. What a link has noted really went through
 /// its inner ends, and it is all that was fed to the receiver; but after [`NodeFault::NoMemory`]
 /// one link may have noted only a first part. Only after [`NodeFault::Failed`] or
@@ -102,6 +105,8 @@ where
     ensures noted { IfErr result (λ e. AreNotedAfter e plan.new.kept.items plan.new.ends.items) }
     ensures wires { AreTurned D.W.told D.W.is_joined (pairs_lost_by result)
         plan.old.wires.items plan.new.wires.items }
+    ensures letters { HaveCarriedSent D.W.told D.W.is_joined plan.old plan.new
+        (states_of (λ b. meaning (b.vtable, b.value)) cells.new.items) result }
     ensures dialer { D.is_honest dialer.old → D.is_honest dialer.new }
     ensures honest { IsHonest D.W.told D.W.is_joined plan.old → OnOk result (IsHonest D.W.told D.W.is_joined plan.new) × IfErr result IsOtherFault }
     ensures carried { HaveReceivedAll D.W.told plan.new.wires.items → IfErr result IsOtherFault }
@@ -174,6 +179,8 @@ where
     ensures noted { IfErr result (λ e. AreNotedAfter e plan.new.kept.items plan.new.ends.items) }
     ensures wires { AreTurned D.W.told D.W.is_joined (pairs_lost_by result)
         plan.old.wires.items plan.new.wires.items }
+    ensures letters { HaveCarriedSent D.W.told D.W.is_joined plan.old plan.new
+        (states_of (λ b. meaning (b.vtable, b.value)) cells.new) result }
     ensures dialer { D.is_honest dialer.old → D.is_honest dialer.new }
     ensures honest { IsHonest D.W.told D.W.is_joined plan.old → OnOk result (IsHonest D.W.told D.W.is_joined plan.new) × IfErr result IsOtherFault }
     ensures carried { HaveReceivedAll D.W.told plan.new.wires.items → IfErr result IsOtherFault }

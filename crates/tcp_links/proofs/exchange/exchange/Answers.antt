@@ -9,15 +9,16 @@ use Rattle.node_exchange.specs.Passings.{SamePassing, AreAcross, NothingCame}
 use Rattle.node_exchange.specs.Faults.{IsByteFault}
 use Rattle.tcp_links.specs.Faults.{IsOtherFault}
 use Rattle.tcp_links.specs.Over.{IsExchangeFault}
-use Rattle.tcp_links.proofs.ExchangeLaws.{twice_written, long_written, no_difference, nothing_came, are_across, can_drain, can_feed, still_taken, fault_on, woven_on, idle_on, caught_up, exchange_on, held_on, all_drained, has_exchanged, idle_slices, emptied_slices, can_drain_slices, sent_slices, taken_slices, links_slices, links_of, sent_where_still, taken_where_still, drained_slices, can_feed_slices, fed_slices, note_slices, woven_kept, to_note}
+use Rattle.tcp_links.proofs.ExchangeLaws.{twice_written, long_written, no_difference, nothing_came, are_across, can_drain, can_feed, still_taken, fault_on, woven_on, idle_on, caught_up, exchange_on, held_on, all_drained, has_exchanged, idle_slices, emptied_slices, can_drain_slices, sent_slices, taken_slices, links_slices, links_of, sent_where_still, taken_where_still, drained_slices, can_feed_slices, fed_slices, note_slices, woven_kept, to_note, taken_one, passings_are, drain_stays}
 use Rattle.tcp_links.specs.Left.{AreSameEnds}
 use Rattle.tcp_links.proofs.LeftLaws.{all_ends_then, keeps_parts}
 use Rattle.tcp_links.proofs.PartLaws.{lost, part_none, part, keep_slices}
 use Rattle.tcp_links.proofs.OverLaws.{err_on}
-use Rattle.node_exchange.proofs.TurnLaws.{turned_none, turned_less, turned_long}
+use Rattle.node_exchange.proofs.TurnLaws.{turned_none, turned_less, turned_long, first_whole}
 use Rattle.tcp_links.specs.Left.{pairs_lost_by, AreNotedAfter}
-use Rattle.node_exchange.specs.Turned.{AreTurned}
+use Rattle.node_exchange.specs.Turned.{loads, AreTurned, AreTurnedWith, HaveCarriedFirst, lost_by as lost_in}
 use Rattle.tcp_links.proofs.LostLaws.{turned_fault}
+use Rattle.tcp_links.proofs.CarriedLaws.{taken_kept, taken_first, taken_more, taken_still, exchange_fault, exchange_none, exchange_part, exchange_whole}
 use Rattle.tcp_links.specs.Kept.{AreFedNoted, AreFedButOne, HasSameFeed}
 use Rattle.tcp_links.proofs.NotedLaws.{all_fed_on, all_kept_fed, fed_but_one, fed_after, but_one_as}
 use Rattle.tcp_links.proofs.exchange.exchange.Goals as goal
@@ -321,3 +322,70 @@ returns-in_err-note_all-clause-left g c =
 
 pub returns-in_err-drain_all-clause-left : goal.returns-in_err-drain_all-clause-left
 returns-in_err-drain_all-clause-left g c = err_on c.from_residual.result _ (IsExchangeFault (λ b. (goal.Machine-dyn g (b.vtable, b.value)).meaning b.value) c.args.round c.args.plan.now c.args.cells.now _ c.drain_all.new.cells) c.from_residual.ensures.1 (part_none (λ b. (goal.Machine-dyn g (b.vtable, b.value)).meaning b.value) c.args.cells.now c.drain_all.new.cells c.drain_all.ensures.quiet c.args.plan.now.kept.items)
+
+pub returns-in_err-drain_all-clause-letters : goal.returns-in_err-drain_all-clause-letters
+returns-in_err-drain_all-clause-letters g c = taken_kept g.D.W.Wire.told g.D.W.Wire.is_joined (Unit {0}) c.from_residual.result _ c.args.plan.now _ (returns-in_err-drain_all-clause-keeps g c) c.from_residual.ensures.1 (exchange_none g.D.W.Wire.told g.D.W.Wire.is_joined _ c.args.plan.now _ _ (returns-in_err-drain_all-clause-keeps g c).ends refl)
+
+pub returns-in-Err-clause-letters : goal.returns-in-Err-clause-letters
+returns-in-Err-clause-letters g c =
+    let idle = idle_slices (home c.args.plan.now.nodes c.args.plan.now.agents) c.args.plan.now.kept.items c.as_slice-2.result.now c.args.plan.now.passings.items c.as_mut_slice-2.result.now c.as_slice-2.ensures.value c.as_mut_slice-2.ensures.value c.requires.ready.idle in
+    let drained = drained_slices (λ b. (goal.Machine-dyn g (b.vtable, b.value)).meaning b.value) (home c.args.plan.now.nodes c.args.plan.now.agents) c.args.cells.now c.args.plan.now.kept.items c.as_slice-2.result.now c.args.plan.now.ends.items c.as_mut_slice.result.now c.drain_all.new.ends c.drain_all.new.passings c.as_slice-2.ensures.value c.as_mut_slice.ensures.value (c.in_ok-drain_all.ensures.drained (home c.args.plan.now.nodes c.args.plan.now.agents) idle) in
+    let long = drained.counted ∙ sym c.requires.ready.idle.size ∙ ap length (sym c.as_mut_slice-2.ensures.value) in
+    let here = c.as_mut_slice-3.ensures.value ∙ written _ c.args.plan.now.passings.items c.drain_all.new.passings c.as_mut_slice-2.result.now c.args.plan.now.passings.ok.0 long c.as_mut_slice-2.ensures.value in
+    exchange_fault g.D.W.Wire.told g.D.W.Wire.is_joined c.args.round c.in-Err.fault _ c.args.plan.now _ c.pass_all.new.wires.items c.node_fault.ensures
+    (exchange_part g.D.W.Wire.told g.D.W.Wire.is_joined _ c.args.plan.now _ c.drain_all.new.ends c.pass_all.new.wires.items c.drain_all.new.passings (written _ c.args.plan.now.ends.items c.drain_all.new.ends c.as_mut_slice.result.now c.args.plan.now.ends.ok.0 (drained.size ∙ ap length (sym c.as_mut_slice.ensures.value)) c.as_mut_slice.ensures.value)
+    (passings_are (λ b. (goal.Machine-dyn g (b.vtable, b.value)).meaning b.value) c.args.plan.now.nodes c.args.plan.now.agents c.args.plan.now.kept.items c.args.plan.now.ends.items c.drain_all.new.ends c.args.cells.now c.drain_all.new.cells c.drain_all.new.passings c.requires.woven c.drain_all.ensures.quiet drained)
+    (taken_first c.args.plan.now.ends.items c.drain_all.new.ends _ (taken_one (λ b. (goal.Machine-dyn g (b.vtable, b.value)).meaning b.value) c.args.plan.now.nodes c.args.plan.now.agents c.args.plan.now.kept.items c.args.plan.now.ends.items c.drain_all.new.ends c.args.cells.now c.drain_all.new.cells c.drain_all.new.passings c.requires.woven c.drain_all.ensures.quiet drained))
+    (subst (λ ps. HaveCarriedFirst g.D.W.Wire.told g.D.W.Wire.is_joined (lost_in {T = Unit {0}} (Err c.in-Err.fault)) (loads c.args.plan.now.nodes ps) c.args.plan.now.wires.items c.pass_all.new.wires.items) here c.in-Err.ensures.loads))
+
+pub returns-in_err-feed_all-clause-letters : goal.returns-in_err-feed_all-clause-letters
+returns-in_err-feed_all-clause-letters g c =
+    let idle = idle_slices (home c.args.plan.now.nodes c.args.plan.now.agents) c.args.plan.now.kept.items c.as_slice-2.result.now c.args.plan.now.passings.items c.as_mut_slice-2.result.now c.as_slice-2.ensures.value c.as_mut_slice-2.ensures.value c.requires.ready.idle in
+    let drained = drained_slices (λ b. (goal.Machine-dyn g (b.vtable, b.value)).meaning b.value) (home c.args.plan.now.nodes c.args.plan.now.agents) c.args.cells.now c.args.plan.now.kept.items c.as_slice-2.result.now c.args.plan.now.ends.items c.as_mut_slice.result.now c.drain_all.new.ends c.drain_all.new.passings c.as_slice-2.ensures.value c.as_mut_slice.ensures.value (c.in_ok-drain_all.ensures.drained (home c.args.plan.now.nodes c.args.plan.now.agents) idle) in
+    let long = drained.counted ∙ sym c.requires.ready.idle.size ∙ ap length (sym c.as_mut_slice-2.ensures.value) in
+    let here = c.as_mut_slice-3.ensures.value ∙ written _ c.args.plan.now.passings.items c.drain_all.new.passings c.as_mut_slice-2.result.now c.args.plan.now.passings.ok.0 long c.as_mut_slice-2.ensures.value in
+    let ends = written _ c.args.plan.now.ends.items c.drain_all.new.ends c.as_mut_slice.result.now c.args.plan.now.ends.ok.0 (drained.size ∙ ap length (sym c.as_mut_slice.ensures.value)) c.as_mut_slice.ensures.value in
+    let same_ends : EachAre AreSameEnds c.args.plan.now.ends.items c.drain_all.new.ends = subst (λ es. EachAre AreSameEnds es c.drain_all.new.ends) c.as_mut_slice.ensures.value c.drain_all.ensures.ends in
+    let more : EachAre AreSameEnds c.drain_all.new.ends c.feed_all.new.ends = subst (λ es. EachAre AreSameEnds es c.feed_all.new.ends) (c.as_mut_slice-5.ensures.value ∙ ends) c.feed_all.ensures.ends in
+    taken_kept g.D.W.Wire.told g.D.W.Wire.is_joined (Unit {0}) c.from_residual-in_err-feed_all.result _ c.args.plan.now _ (returns-in_err-feed_all-clause-keeps g c) c.from_residual-in_err-feed_all.ensures.1
+    (exchange_part g.D.W.Wire.told g.D.W.Wire.is_joined _ c.args.plan.now _ c.feed_all.new.ends c.pass_all.new.wires.items c.drain_all.new.passings (twice_written _ c.args.plan.now.ends.items c.drain_all.new.ends c.as_mut_slice.result.now c.feed_all.new.ends c.as_mut_slice-5.result.now c.args.plan.now.ends.ok.0 (drained.size ∙ ap length (sym c.as_mut_slice.ensures.value)) c.as_mut_slice.ensures.value c.feed_all.ensures.sizes.1 c.as_mut_slice-5.ensures.value)
+    (passings_are (λ b. (goal.Machine-dyn g (b.vtable, b.value)).meaning b.value) c.args.plan.now.nodes c.args.plan.now.agents c.args.plan.now.kept.items c.args.plan.now.ends.items c.drain_all.new.ends c.args.cells.now c.drain_all.new.cells c.drain_all.new.passings c.requires.woven c.drain_all.ensures.quiet drained)
+    (taken_more c.args.plan.now.ends.items c.drain_all.new.ends c.feed_all.new.ends _ same_ends more (taken_one (λ b. (goal.Machine-dyn g (b.vtable, b.value)).meaning b.value) c.args.plan.now.nodes c.args.plan.now.agents c.args.plan.now.kept.items c.args.plan.now.ends.items c.drain_all.new.ends c.args.cells.now c.drain_all.new.cells c.drain_all.new.passings c.requires.woven c.drain_all.ensures.quiet drained))
+    (first_whole g.D.W.Wire.told g.D.W.Wire.is_joined _ _ c.args.plan.now.wires.items c.pass_all.new.wires.items
+    (subst (λ ps. AreTurnedWith g.D.W.Wire.told g.D.W.Wire.is_joined 0 (loads c.args.plan.now.nodes ps) c.args.plan.now.wires.items c.pass_all.new.wires.items) here c.in_default.ensures.loads)))
+
+pub returns-in_err-note_all-clause-letters : goal.returns-in_err-note_all-clause-letters
+returns-in_err-note_all-clause-letters g c =
+    let idle = idle_slices (home c.args.plan.now.nodes c.args.plan.now.agents) c.args.plan.now.kept.items c.as_slice-2.result.now c.args.plan.now.passings.items c.as_mut_slice-2.result.now c.as_slice-2.ensures.value c.as_mut_slice-2.ensures.value c.requires.ready.idle in
+    let drained = drained_slices (λ b. (goal.Machine-dyn g (b.vtable, b.value)).meaning b.value) (home c.args.plan.now.nodes c.args.plan.now.agents) c.args.cells.now c.args.plan.now.kept.items c.as_slice-2.result.now c.args.plan.now.ends.items c.as_mut_slice.result.now c.drain_all.new.ends c.drain_all.new.passings c.as_slice-2.ensures.value c.as_mut_slice.ensures.value (c.in_ok-drain_all.ensures.drained (home c.args.plan.now.nodes c.args.plan.now.agents) idle) in
+    let long = drained.counted ∙ sym c.requires.ready.idle.size ∙ ap length (sym c.as_mut_slice-2.ensures.value) in
+    let here = c.as_mut_slice-3.ensures.value ∙ written _ c.args.plan.now.passings.items c.drain_all.new.passings c.as_mut_slice-2.result.now c.args.plan.now.passings.ok.0 long c.as_mut_slice-2.ensures.value in
+    let ends = written _ c.args.plan.now.ends.items c.drain_all.new.ends c.as_mut_slice.result.now c.args.plan.now.ends.ok.0 (drained.size ∙ ap length (sym c.as_mut_slice.ensures.value)) c.as_mut_slice.ensures.value in
+    let same_ends : EachAre AreSameEnds c.args.plan.now.ends.items c.drain_all.new.ends = subst (λ es. EachAre AreSameEnds es c.drain_all.new.ends) c.as_mut_slice.ensures.value c.drain_all.ensures.ends in
+    let more : EachAre AreSameEnds c.drain_all.new.ends c.feed_all.new.ends = subst (λ es. EachAre AreSameEnds es c.feed_all.new.ends) (c.as_mut_slice-5.ensures.value ∙ ends) c.feed_all.ensures.ends in
+    taken_kept g.D.W.Wire.told g.D.W.Wire.is_joined (Unit {0}) c.from_residual-in_err-note_all.result _ c.args.plan.now _ (returns-in_err-note_all-clause-keeps g c) c.from_residual-in_err-note_all.ensures.1
+    (exchange_part g.D.W.Wire.told g.D.W.Wire.is_joined _ c.args.plan.now _ c.feed_all.new.ends c.pass_all.new.wires.items c.drain_all.new.passings (twice_written _ c.args.plan.now.ends.items c.drain_all.new.ends c.as_mut_slice.result.now c.feed_all.new.ends c.as_mut_slice-5.result.now c.args.plan.now.ends.ok.0 (drained.size ∙ ap length (sym c.as_mut_slice.ensures.value)) c.as_mut_slice.ensures.value c.feed_all.ensures.sizes.1 c.as_mut_slice-5.ensures.value)
+    (passings_are (λ b. (goal.Machine-dyn g (b.vtable, b.value)).meaning b.value) c.args.plan.now.nodes c.args.plan.now.agents c.args.plan.now.kept.items c.args.plan.now.ends.items c.drain_all.new.ends c.args.cells.now c.drain_all.new.cells c.drain_all.new.passings c.requires.woven c.drain_all.ensures.quiet drained)
+    (taken_more c.args.plan.now.ends.items c.drain_all.new.ends c.feed_all.new.ends _ same_ends more (taken_one (λ b. (goal.Machine-dyn g (b.vtable, b.value)).meaning b.value) c.args.plan.now.nodes c.args.plan.now.agents c.args.plan.now.kept.items c.args.plan.now.ends.items c.drain_all.new.ends c.args.cells.now c.drain_all.new.cells c.drain_all.new.passings c.requires.woven c.drain_all.ensures.quiet drained))
+    (first_whole g.D.W.Wire.told g.D.W.Wire.is_joined _ _ c.args.plan.now.wires.items c.pass_all.new.wires.items
+    (subst (λ ps. AreTurnedWith g.D.W.Wire.told g.D.W.Wire.is_joined 0 (loads c.args.plan.now.nodes ps) c.args.plan.now.wires.items c.pass_all.new.wires.items) here c.in_default.ensures.loads)))
+
+pub returns-clause-letters : goal.returns-clause-letters
+returns-clause-letters g c =
+    let idle = idle_slices (home c.args.plan.now.nodes c.args.plan.now.agents) c.args.plan.now.kept.items c.as_slice-2.result.now c.args.plan.now.passings.items c.as_mut_slice-2.result.now c.as_slice-2.ensures.value c.as_mut_slice-2.ensures.value c.requires.ready.idle in
+    let drained = drained_slices (λ b. (goal.Machine-dyn g (b.vtable, b.value)).meaning b.value) (home c.args.plan.now.nodes c.args.plan.now.agents) c.args.cells.now c.args.plan.now.kept.items c.as_slice-2.result.now c.args.plan.now.ends.items c.as_mut_slice.result.now c.drain_all.new.ends c.drain_all.new.passings c.as_slice-2.ensures.value c.as_mut_slice.ensures.value (c.in_ok-drain_all.ensures.drained (home c.args.plan.now.nodes c.args.plan.now.agents) idle) in
+    let long = drained.counted ∙ sym c.requires.ready.idle.size ∙ ap length (sym c.as_mut_slice-2.ensures.value) in
+    let here = c.as_mut_slice-3.ensures.value ∙ written _ c.args.plan.now.passings.items c.drain_all.new.passings c.as_mut_slice-2.result.now c.args.plan.now.passings.ok.0 long c.as_mut_slice-2.ensures.value in
+    let one = long_written _ c.args.plan.now.passings.items c.drain_all.new.passings c.as_mut_slice-2.result.now c.args.plan.now.passings.ok.0 long c.as_mut_slice-2.ensures.value in
+    let longer = sym (each_long SamePassing c.as_mut_slice-3.result.now c.pass_all.new.passings c.pass_all.ensures.same) in
+    let passed = c.as_mut_slice-6.ensures.value ∙ written _ _ c.pass_all.new.passings c.as_mut_slice-3.result.now one longer c.as_mut_slice-3.ensures.value in
+    let ends = written _ c.args.plan.now.ends.items c.drain_all.new.ends c.as_mut_slice.result.now c.args.plan.now.ends.ok.0 (drained.size ∙ ap length (sym c.as_mut_slice.ensures.value)) c.as_mut_slice.ensures.value in
+    let same : EachAre SamePassing c.drain_all.new.passings c.pass_all.new.passings = subst (λ ps. EachAre SamePassing ps c.pass_all.new.passings) here c.pass_all.ensures.same in
+    let fed = fed_slices (λ b. (goal.Machine-dyn g (b.vtable, b.value)).meaning b.value) c.feed_all.new.cells c.args.plan.now.kept.items c.as_mut_slice-4.result.now c.feed_all.new.kept c.drain_all.new.ends c.as_mut_slice-5.result.now c.feed_all.new.ends c.pass_all.new.passings c.as_mut_slice-6.result.now c.as_mut_slice-4.ensures.value (c.as_mut_slice-5.ensures.value ∙ ends) passed c.in_ok-feed_all.ensures.fed in
+    let same_ends : EachAre AreSameEnds c.args.plan.now.ends.items c.drain_all.new.ends = subst (λ es. EachAre AreSameEnds es c.drain_all.new.ends) c.as_mut_slice.ensures.value c.drain_all.ensures.ends in
+    exchange_whole g.D.W.Wire.told g.D.W.Wire.is_joined c.args.plan.now _ c.feed_all.new.ends c.pass_all.new.wires.items c.drain_all.new.passings (twice_written _ c.args.plan.now.ends.items c.drain_all.new.ends c.as_mut_slice.result.now c.feed_all.new.ends c.as_mut_slice-5.result.now c.args.plan.now.ends.ok.0 (drained.size ∙ ap length (sym c.as_mut_slice.ensures.value)) c.as_mut_slice.ensures.value c.feed_all.ensures.sizes.1 c.as_mut_slice-5.ensures.value)
+    (passings_are (λ b. (goal.Machine-dyn g (b.vtable, b.value)).meaning b.value) c.args.plan.now.nodes c.args.plan.now.agents c.args.plan.now.kept.items c.args.plan.now.ends.items c.drain_all.new.ends c.args.cells.now c.drain_all.new.cells c.drain_all.new.passings c.requires.woven c.drain_all.ensures.quiet drained)
+    (taken_still c.args.plan.now.ends.items c.drain_all.new.ends c.feed_all.new.ends _ same_ends
+    (drain_stays (λ b. (goal.Machine-dyn g (b.vtable, b.value)).meaning b.value) c.args.plan.now.nodes c.args.plan.now.agents c.args.plan.now.kept.items c.args.plan.now.ends.items c.drain_all.new.ends c.args.cells.now c.drain_all.new.cells c.drain_all.new.passings c.requires.woven c.drain_all.ensures.quiet drained c.pass_all.new.passings c.feed_all.new.kept c.feed_all.new.ends c.feed_all.new.cells same c.feed_all.ensures.quiet fed)
+    (taken_one (λ b. (goal.Machine-dyn g (b.vtable, b.value)).meaning b.value) c.args.plan.now.nodes c.args.plan.now.agents c.args.plan.now.kept.items c.args.plan.now.ends.items c.drain_all.new.ends c.args.cells.now c.drain_all.new.cells c.drain_all.new.passings c.requires.woven c.drain_all.ensures.quiet drained))
+    (subst (λ ps. AreTurnedWith g.D.W.Wire.told g.D.W.Wire.is_joined 0 (loads c.args.plan.now.nodes ps) c.args.plan.now.wires.items c.pass_all.new.wires.items) here c.in_default.ensures.loads)

@@ -12,6 +12,7 @@ use Rattle.tcp_links.proofs.LeftLaws.{keeps_none, keeps_then, same_then}
 use Rattle.node_exchange.proofs.TurnLaws.{turned_none, turned_then}
 use Rattle.node_exchange.proofs.WholeLaws.{turned_back}
 use Rattle.tcp_links.proofs.LostLaws.{turned_on}
+use Rattle.tcp_links.proofs.CarriedLaws.{links_rounds, plan_none, plan_then, plan_part_then, taken_on}
 use Rattle.tcp_links.specs.Left.{AreNotedAfter}
 use Rattle.tcp_links.proofs.over.play_over.Goals as goal
 
@@ -22,6 +23,7 @@ loop-round-init g c = record {
   same = same_all (λ b. (goal.Machine-dyn g (b.vtable, b.value)).meaning b.value) c.args.cells.now;
   keeps = keeps_none c.args.plan.now;
   wires = turned_none g.D.W.Wire.told g.D.W.Wire.is_joined 0 c.args.plan.now.wires.items;
+  letters = plan_none g.D.W.Wire.told g.D.W.Wire.is_joined c.args.plan.now;
   joined = c.requires.joined;
   begun = c.requires.begun;
   fine = c.requires.fine;
@@ -171,6 +173,7 @@ loop-round-preserved g c = let i = c.loop-round.invariant in let was = i.deliver
   same = same_then (λ b. (goal.Machine-dyn g (b.vtable, b.value)).meaning b.value) c.args.cells.now c.loop-round.cells c.round_over.new.cells c.loop-round.invariant.same c.round_over.ensures.same;
   keeps = keeps_then c.args.plan.now c.loop-round.plan c.round_over.new.plan c.loop-round.invariant.keeps c.round_over.ensures.keeps;
   wires = turned_then g.D.W.Wire.told g.D.W.Wire.is_joined 0 c.args.plan.now.wires.items c.loop-round.plan.wires.items c.round_over.new.plan.wires.items c.loop-round.invariant.wires c.in_ok-taken.ensures.wires;
+  letters = plan_then g.D.W.Wire.told g.D.W.Wire.is_joined c.args.plan.now c.loop-round.plan c.round_over.new.plan c.loop-round.invariant.keeps (links_rounds _ _ _ _ c.loop-round.invariant.played.rounds _ _ c.loop-round.invariant.played.are) c.loop-round.invariant.letters c.in_ok-taken.ensures.letters;
   joined = joined_back (λ b. (goal.Machine-dyn g (b.vtable, b.value)).meaning b.value) c.args.plan.now c.loop-round.plan c.round_over.new.cells c.loop-round.invariant.over.nodes c.round_over.ensures.joined;
   begun = c.round_over.ensures.begun;
   fine = made.fine;
@@ -321,3 +324,25 @@ returns-then-taken-eq0-clause-carried g c = λ all held. ((c.in_ok-taken.ensures
 
 pub returns-clause-carried : goal.returns-clause-carried
 returns-clause-carried g c = λ all held. (c.loop-round.invariant.carried all held, tt)
+
+pub returns-then-all_ended-clause-letters : goal.returns-then-all_ended-clause-letters
+returns-then-all_ended-clause-letters g c = plan_none g.D.W.Wire.told g.D.W.Wire.is_joined c.args.plan.now
+
+pub returns-in_err-taken-clause-letters : goal.returns-in_err-taken-clause-letters
+returns-in_err-taken-clause-letters g c = taken_on g.D.W.Wire.told g.D.W.Wire.is_joined (Option ℕ) c.from_residual.result _ c.args.plan.now c.round_over.new.plan c.from_residual.ensures.1
+    (plan_part_then g.D.W.Wire.told g.D.W.Wire.is_joined _ c.args.plan.now c.loop-round.plan c.round_over.new.plan c.loop-round.invariant.keeps (links_rounds _ _ _ _ c.loop-round.invariant.played.rounds _ _ c.loop-round.invariant.played.are) c.loop-round.invariant.letters c.in_err-taken.ensures.letters)
+
+pub returns-in_default-clause-letters : goal.returns-in_default-clause-letters
+returns-in_default-clause-letters g c = plan_then g.D.W.Wire.told g.D.W.Wire.is_joined c.args.plan.now c.loop-round.plan c.round_over.new.plan c.loop-round.invariant.keeps (links_rounds _ _ _ _ c.loop-round.invariant.played.rounds _ _ c.loop-round.invariant.played.are) c.loop-round.invariant.letters c.in_ok-taken.ensures.letters
+
+pub returns-then-all_ended-2-clause-letters : goal.returns-then-all_ended-2-clause-letters
+returns-then-all_ended-2-clause-letters g c = plan_then g.D.W.Wire.told g.D.W.Wire.is_joined c.args.plan.now c.loop-round.plan c.round_over.new.plan c.loop-round.invariant.keeps (links_rounds _ _ _ _ c.loop-round.invariant.played.rounds _ _ c.loop-round.invariant.played.are) c.loop-round.invariant.letters c.in_ok-taken.ensures.letters
+
+pub returns-then-deliveries-budget-clause-letters : goal.returns-then-deliveries-budget-clause-letters
+returns-then-deliveries-budget-clause-letters g c = plan_then g.D.W.Wire.told g.D.W.Wire.is_joined c.args.plan.now c.loop-round.plan c.round_over.new.plan c.loop-round.invariant.keeps (links_rounds _ _ _ _ c.loop-round.invariant.played.rounds _ _ c.loop-round.invariant.played.are) c.loop-round.invariant.letters c.in_ok-taken.ensures.letters
+
+pub returns-then-taken-eq0-clause-letters : goal.returns-then-taken-eq0-clause-letters
+returns-then-taken-eq0-clause-letters g c = plan_then g.D.W.Wire.told g.D.W.Wire.is_joined c.args.plan.now c.loop-round.plan c.round_over.new.plan c.loop-round.invariant.keeps (links_rounds _ _ _ _ c.loop-round.invariant.played.rounds _ _ c.loop-round.invariant.played.are) c.loop-round.invariant.letters c.in_ok-taken.ensures.letters
+
+pub returns-clause-letters : goal.returns-clause-letters
+returns-clause-letters g c = c.loop-round.invariant.letters

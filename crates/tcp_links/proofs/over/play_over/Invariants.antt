@@ -12,6 +12,7 @@ use Rattle.tcp_links.specs.Left.{KeepsPlan}
 use Rattle.tcp_links.specs.Plans.{IsHonest}
 use Rattle.tcp_links.specs.Over.{IsPlanOver, ArePlayedSo}
 use Rattle.tcp_links.proofs.SharedLaws.{SharedSoFar}
+use Rattle.tcp_links.proofs.CarriedLaws.{WholeOf}
 use Rattle.tcp_links.proofs.over.play_over.Given as goal
 
 abbrev pub invariant-loop-round : goal.invariant-loop-round
@@ -21,6 +22,7 @@ invariant-loop-round g l = record {
   same : EachBecomes IsSameCell l.initial.cells l.cells;
   keeps : KeepsPlan l.initial.plan l.plan;
   wires : AreTurned g.D.W.Wire.told g.D.W.Wire.is_joined 0 l.initial.plan.wires.items l.plan.wires.items;
+  letters : WholeOf g.D.W.Wire.told g.D.W.Wire.is_joined l.initial.plan l.plan;
   joined : AreCellsJoined (λ b. (goal.Machine-dyn g (b.vtable, b.value)).meaning b.value) l.initial.plan.nodes l.cells;
   begun : EachIs (λ c. HasBegun (λ b. (goal.Machine-dyn g (b.vtable, b.value)).meaning b.value) c) l.cells;
   fine : EachIs (λ c. fault_in c ≡ None) l.cells;

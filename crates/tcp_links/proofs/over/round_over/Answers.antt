@@ -14,6 +14,7 @@ use Rattle.tcp_links.proofs.SharedLaws.{shared_over}
 use Rattle.tcp_links.proofs.LeftLaws.{keeps_same, keeps_then, same_then}
 use Rattle.node_exchange.proofs.TurnLaws.{turned_less}
 use Rattle.tcp_links.proofs.LostLaws.{turned_on}
+use Rattle.tcp_links.proofs.CarriedLaws.{taken_on, plan_part}
 use Rattle.tcp_links.specs.Left.{AreNotedAfter}
 use Rattle.tcp_links.proofs.NotedLaws.{all_kept_fed, fed_but_one}
 use Rattle.tcp_links.proofs.ExchangeLaws.{woven_kept}
@@ -159,3 +160,15 @@ returns-in-Err-StampEnd-clause-carried g c = λ all. ((c.in_ok-exchange.ensures.
 
 pub returns-in-Err-NoMemory-clause-carried : goal.returns-in-Err-NoMemory-clause-carried
 returns-in-Err-NoMemory-clause-carried g c = λ all. (tt, tt)
+
+pub returns-in_err-exchange-clause-letters : goal.returns-in_err-exchange-clause-letters
+returns-in_err-exchange-clause-letters g c = taken_on g.D.W.Wire.told g.D.W.Wire.is_joined (Unit {0}) c.from_residual.result _ c.args.plan.now c.exchange.new.plan c.from_residual.ensures.1 c.in_err-exchange.ensures.letters
+
+pub returns-in-Ok-clause-letters : goal.returns-in-Ok-clause-letters
+returns-in-Ok-clause-letters g c = c.in_ok-exchange.ensures.letters
+
+pub returns-in-Err-StampEnd-clause-letters : goal.returns-in-Err-StampEnd-clause-letters
+returns-in-Err-StampEnd-clause-letters g c = c.in_ok-exchange.ensures.letters
+
+pub returns-in-Err-NoMemory-clause-letters : goal.returns-in-Err-NoMemory-clause-letters
+returns-in-Err-NoMemory-clause-letters g c = plan_part g.D.W.Wire.told g.D.W.Wire.is_joined 1 c.args.plan.now c.exchange.new.plan c.in_ok-exchange.ensures.letters

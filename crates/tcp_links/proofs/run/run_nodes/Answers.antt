@@ -18,6 +18,9 @@ use Rattle.tcp_links.proofs.OverLaws.{err_on}
 use Rattle.tcp_links.proofs.LeftLaws.{keeps_same, keeps_then}
 use Rattle.node_exchange.proofs.TurnLaws.{turned_none}
 use Rattle.node_exchange.specs.Turned.{AreTurned}
+use Rattle.tcp_links.specs.Carried.{HaveCarriedSent}
+use Rattle.tcp_links.proofs.CarriedLaws.{exchange_none}
+use Rattle.tcp_links.proofs.SentLaws.{sent_on, sent_same}
 use Rattle.tcp_links.specs.Left.{pairs_lost_by, AreNotedAfter}
 use Rattle.tcp_links.proofs.NotedLaws.{fed_but_one, fed_as, on_fault, fault_then}
 use Rattle.tcp_links.proofs.RunLaws.{linked_fed}
@@ -99,3 +102,12 @@ returns-clause-left g c = carry (λ old new. IfErr c.run_over.result (IsLeftBy (
 
 pub returns-clause-carried : goal.returns-clause-carried
 returns-clause-carried g c = c.run_over.ensures.carried
+
+pub returns-in_err-prepare-clause-letters : goal.returns-in_err-prepare-clause-letters
+returns-in_err-prepare-clause-letters g c = sent_on g.D.W.Wire.told g.D.W.Wire.is_joined (Unit {0}) c.from_residual.result _ c.args.plan.now c.prepare.new.plan _ c.from_residual.ensures.1
+    (exchange_none g.D.W.Wire.told g.D.W.Wire.is_joined _ c.args.plan.now c.prepare.new.plan.ends.items c.prepare.new.plan.wires.items (keeps_same c.args.plan.now c.prepare.new.plan c.prepare.ensures.same.agents c.prepare.ensures.same.nodes c.prepare.ensures.same.ends).ends c.prepare.ensures.same.wires)
+
+pub returns-clause-letters : goal.returns-clause-letters
+returns-clause-letters g c =
+    subst (λ cells. HaveCarriedSent g.D.W.Wire.told g.D.W.Wire.is_joined c.args.plan.now c.run_over.new.plan (states_of (λ b. (goal.Machine-dyn g (b.vtable, b.value)).meaning b.value) cells) c.run_over.result) (sym (written _ c.args.cells.now.items c.run_over.new.cells c.as_mut_slice.result.now c.args.cells.now.ok.0 c.run_over.ensures.size c.as_mut_slice.ensures.value))
+    (sent_same g.D.W.Wire.told g.D.W.Wire.is_joined c.run_over.result c.args.plan.now c.prepare.new.plan c.run_over.new.plan (states_of (λ b. (goal.Machine-dyn g (b.vtable, b.value)).meaning b.value) c.run_over.new.cells) c.prepare.ensures.same c.run_over.ensures.letters)

@@ -19,6 +19,8 @@ use Rattle.node_exchange.proofs.TurnLaws.{turned_none, turned_then}
 use Rattle.node_exchange.proofs.WholeLaws.{turned_back}
 use Rattle.node_exchange.specs.Turned.{AreTurned}
 use Rattle.tcp_links.proofs.LostLaws.{turned_on}
+use Rattle.tcp_links.proofs.CarriedLaws.{links_then, links_passed, exchange_none, plan_part, plan_then, plan_part_then}
+use Rattle.tcp_links.proofs.SentLaws.{links_played, taken_sent, sent_on, sent_last}
 use Rattle.tcp_links.proofs.NotedLaws.{kept_out, fed_but_one, on_fault}
 use Rattle.tcp_links.proofs.ExchangeLaws.{woven_kept}
 use Rattle.tcp_links.proofs.RunLaws.{linked_fed}
@@ -240,3 +242,23 @@ pub returns-in-Some-clause-carried : goal.returns-in-Some-clause-carried
 returns-in-Some-clause-carried g c = λ all.
     let held = (c.in_ok-play.ensures.carried (turned_back g.D.W.Wire.told g.D.W.Wire.is_joined c.play_over.new.plan.wires.items c.exchange.new.plan.wires.items c.in_ok-exchange.ensures.wires all) (held_start (λ b. (goal.Machine-dyn g (b.vtable, b.value)).meaning b.value) c.args.plan.now c.args.cells.now c.requires.plan c.requires.linked)).0 in
     absurd (never_differ c.as_mut_slice.result.now _ (held_in _ _ (sym c.as_mut_slice.ensures.value) ((c.in_ok-exchange.ensures.carried all).0 held)) c.in-Some.ensures.found)
+
+pub returns-in_err-begin_all-clause-letters : goal.returns-in_err-begin_all-clause-letters
+returns-in_err-begin_all-clause-letters g c = sent_on g.D.W.Wire.told g.D.W.Wire.is_joined (Unit {0}) c.from_residual.result _ c.args.plan.now c.args.plan.now _ c.from_residual.ensures.1 (exchange_none g.D.W.Wire.told g.D.W.Wire.is_joined _ c.args.plan.now c.args.plan.now.ends.items c.args.plan.now.wires.items (keeps_none c.args.plan.now).ends refl)
+
+pub returns-in_err-play-clause-letters : goal.returns-in_err-play-clause-letters
+returns-in_err-play-clause-letters g c = sent_on g.D.W.Wire.told g.D.W.Wire.is_joined Played c.from_residual-in_err-play.result _ c.args.plan.now c.play_over.new.plan _ c.from_residual-in_err-play.ensures.1 c.in_err-play.ensures.letters
+
+pub returns-in_err-exchange-clause-letters : goal.returns-in_err-exchange-clause-letters
+returns-in_err-exchange-clause-letters g c = sent_on g.D.W.Wire.told g.D.W.Wire.is_joined (Unit {0}) c.from_residual-in_err-exchange.result _ c.args.plan.now c.exchange.new.plan _ c.from_residual-in_err-exchange.ensures.1
+    (plan_part_then g.D.W.Wire.told g.D.W.Wire.is_joined _ c.args.plan.now c.play_over.new.plan c.exchange.new.plan c.play_over.ensures.keeps (links_played (λ b. (goal.Machine-dyn g (b.vtable, b.value)).meaning b.value) _ _ _ _ _ c.play_over.new.cells _ c.in_ok-play.play.end c.in_ok-play.ensures.played) c.in_ok-play.ensures.letters c.in_err-exchange.ensures.letters)
+
+pub returns-in-Some-clause-letters : goal.returns-in-Some-clause-letters
+returns-in-Some-clause-letters g c = plan_part g.D.W.Wire.told g.D.W.Wire.is_joined 0 c.args.plan.now c.exchange.new.plan (plan_then g.D.W.Wire.told g.D.W.Wire.is_joined c.args.plan.now c.play_over.new.plan c.exchange.new.plan c.play_over.ensures.keeps (links_played (λ b. (goal.Machine-dyn g (b.vtable, b.value)).meaning b.value) _ _ _ _ _ c.play_over.new.cells _ c.in_ok-play.play.end c.in_ok-play.ensures.played) c.in_ok-play.ensures.letters c.in_ok-exchange.ensures.letters)
+
+pub returns-clause-letters : goal.returns-clause-letters
+returns-clause-letters g c =
+    let links = links_then c.args.plan.now.kept.items c.play_over.new.plan.kept.items c.exchange.new.plan.kept.items (links_played (λ b. (goal.Machine-dyn g (b.vtable, b.value)).meaning b.value) _ _ _ _ _ c.play_over.new.cells _ c.in_ok-play.play.end c.in_ok-play.ensures.played) (links_passed _ _ c.in_ok-exchange.ensures.exchanged.exchange.passed) in
+    sent_last g.D.W.Wire.told g.D.W.Wire.is_joined c.args.plan.now c.exchange.new.plan c.clear_links.new.plan (states_of (λ b. (goal.Machine-dyn g (b.vtable, b.value)).meaning b.value) c.settle_all.new.cells) c.clear_links.ensures.wires (plan_then g.D.W.Wire.told g.D.W.Wire.is_joined c.args.plan.now c.play_over.new.plan c.exchange.new.plan c.play_over.ensures.keeps (links_played (λ b. (goal.Machine-dyn g (b.vtable, b.value)).meaning b.value) _ _ _ _ _ c.play_over.new.cells _ c.in_ok-play.play.end c.in_ok-play.ensures.played) c.in_ok-play.ensures.letters c.in_ok-exchange.ensures.letters)
+    (λ drained h. taken_sent (λ b. (goal.Machine-dyn g (b.vtable, b.value)).meaning b.value) c.args.plan.now c.exchange.new.plan c.args.cells.now c.exchange.new.cells c.settle_all.new.cells drained c.requires.plan c.requires.linked (keeps_then c.args.plan.now c.play_over.new.plan c.exchange.new.plan c.play_over.ensures.keeps c.exchange.ensures.keeps) links
+    c.in_ok-exchange.ensures.exchanged.told c.settle_all.ensures.settled.quiet h)
