@@ -1,5 +1,5 @@
 -- What the wires of a plan carried, exchange by exchange.
-use Rattle.std.proofs.Common.{◌≡◌, ℕ, List, [], ◌∷◌, ◌++◌, length, Some, Ok, Err, refl, sym, ap, subst, ◌∙◌}
+use Rattle.std.proofs.Common.{◌≡◌, ℕ, List, [], ◌∷◌, ◌++◌, Some, Ok, Err, refl, sym, ap, subst, ◌∙◌}
 use Rattle.std.specs.Prelude.{Result, IsErrAnd, option_to_list}
 use Rattle.std.specs.List.{All, slice_get, flat_map}
 use Rattle.std.proofs.lemmas.Grind.{flat_map-append}
@@ -9,10 +9,10 @@ use Rattle.std.proofs.lemmas.Option.{same_Some}
 use mathlib.Core.List.{IsPrefix}
 use Rattle.protocol_steps.specs.declared.message.Message.{Message}
 use Rattle.fifo_links.specs.Link.{taken_from}
-use Rattle.worker_laws.specs.Cells.{CellState, lane, EachAre}
+use Rattle.worker_laws.specs.Cells.{CellState, EachAre}
 use Rattle.worker_laws.specs.OneNode.{home}
-use Rattle.worker_laws.specs.Wires.{Wire, HasPassed, ArePassedOn}
-use Rattle.worker_laws.specs.NodeRounds.{IsNodeRound, AreNodeRounds}
+use Rattle.worker_laws.specs.Wires.{Wire, ArePassedOn}
+use Rattle.worker_laws.specs.NodeRounds.{AreNodeRounds}
 use Rattle.worker_laws.proofs.EachLaws.{each_on}
 use Rattle.wire_pump.specs.Wire.{Told}
 use Rattle.node_exchange.specs.declared.fault.PassFault.{PassFault}
@@ -28,7 +28,7 @@ use Rattle.tcp_links.specs.Faults.{node_fault}
 use Rattle.tcp_links.specs.Left.{AreSameEnds, KeepsPlan, pairs_lost_by}
 use Rattle.tcp_links.specs.Woven.{IsPassingOf}
 use Rattle.tcp_links.specs.Over.{IsDrainedOf}
-use Rattle.tcp_links.specs.Carried.{drained_at, AreTaken, AreTakenFirst, AreSent, HaveCarriedOver, HaveCarriedTaken}
+use Rattle.tcp_links.specs.Carried.{drained_at, AreTaken, AreTakenFirst, HaveCarriedOver, HaveCarriedTaken}
 
 -- a link between the same agents
 pub record HasSameAgents (before after : Wire) : Type 0 where

@@ -9,7 +9,7 @@ use Rattle.protocol_steps.specs.declared.message.Message.{Message}
 use Rattle.protocol_steps.specs.declared.run_end.RunEnd.{RunEnd}
 use Rattle.protocol_steps.specs.View.{View}
 use Rattle.fifo_links.specs.Link.{taken_from}
-use Rattle.worker_laws.specs.Cells.{CellState, lane, EachAre}
+use Rattle.worker_laws.specs.Cells.{CellState, lane}
 use Rattle.worker_laws.specs.OneNode.{home}
 use Rattle.worker_laws.specs.Wires.{Wire}
 use Rattle.worker_laws.proofs.EachLaws.{there, each_on}
@@ -27,9 +27,9 @@ use Rattle.tcp_links.specs.Left.{AreSameEnds, KeepsPlan, pairs_lost_by}
 use Rattle.tcp_links.specs.Plans.{IsBetween, IsPlan, IsSamePlan}
 use Rattle.tcp_links.specs.Woven.{HaveCaughtUp}
 use Rattle.tcp_links.specs.Linked.{AreLinkedOver}
-use Rattle.tcp_links.specs.Over.{HasExchanged, ArePlayedTo}
+use Rattle.tcp_links.specs.Over.{ArePlayedTo}
 use Rattle.tcp_links.specs.Carried.{AreTaken, AreTakenFirst, AreSent, HaveCarriedOver, HaveCarriedTaken, HaveCarriedSent}
-use Rattle.tcp_links.proofs.CarriedLaws.{HasSameAgents, AreSameLinks, links_then, links_passed, links_rounds, same_taken, WholeOf, PartOf}
+use Rattle.tcp_links.proofs.CarriedLaws.{HasSameAgents, AreSameLinks, links_then, links_passed, links_rounds, same_taken, WholeOf}
 
 module _ {X : Type 0} {F : X → Type 0} (M : DynBox X Global F → View) where
   -- playing leaves the agents of links as they are
