@@ -27,7 +27,7 @@ If a row compares speeds, 1.25 times means faster than the other program. If it 
 | none of these four | there was little other work, or it was not recorded |
 | old | an earlier version of the code was measured |
 """
-HEAD = "| What it measures | Result | Goal | How | What bounds it | Script |\n|---|---|---|---|---|---|"
+HEAD = "| What it measures | Result | Goal | How | Why it misses | Script |\n|---|---|---|---|---|---|"
 
 
 def page() -> str:

@@ -46,7 +46,7 @@ def opening(run: dict[str, Any], count: int) -> str:
         "\"Proof\" is the processor time, in seconds, for proving a crate and building its library or program. \"Tests\" is that for its tests. "
         "\"All again\" is the processor time, in minutes, for a crate and all that use it: what a change of the crate can take. A dash means that "
         "there are no tests, or that the crate was not measured.\n\n"
-        "The trusted edge is code whose outside calls are trusted; what sockets carry is not.\n\n"
+        "The trusted edge is code that calls code outside of the proofs. These calls must be trusted; what sockets carry need not be.\n\n"
         f"{run['says']}\n"
     )
 

@@ -1,7 +1,7 @@
-"""The pages of definitions and of public calls: for each of the two a page for each layer of crates, and one that leads to them.
+"""The pages of definitions and of public calls: for each of the two a page for each crate, and one that leads to them.
 
-The page of a layer has a definition if a clause of a public call cites it, or if one that such a clause cites rests on it; others only help
-proofs. What a clause cites leads to the section of its crate.
+The page of a crate has a definition if a clause of a public call cites it, or if one that such a clause cites rests on it; others only help
+proofs. What a clause cites leads to the page of its crate.
 """
 
 from __future__ import annotations
@@ -21,7 +21,7 @@ NAVIGATION = TOP / "mkdocs.yml"
 
 @dataclass(frozen=True)
 class Kind:
-    """Definitions or calls: the folder of their pages, their title, what the first page says, and the section of a crate, which may be empty."""
+    """Definitions or calls: the folder of their pages, their title, what the first page says, and what it has of a crate, which may be nothing."""
 
     folder: str
     title: str
@@ -31,6 +31,9 @@ class Kind:
     @property
     def index(self) -> Path:
         return PAGES / f"{self.folder}.md"
+
+    def page(self, crate: str) -> Path:
+        return PAGES / self.folder / f"{crate}.md"
 
 
 def definitions_of(crate: str, sources: Sources) -> list[str]:
@@ -74,8 +77,9 @@ def link(path: Path, line: int) -> str:
 DEFINITIONS = Kind(
     "definitions",
     "Definitions",
-    "The pages below have all definitions that clauses of public calls cite or rest on, each with its sentence, file and line. The sentence is short; if it "
-    "differs from the file, the file decides. Numbers are plain numbers without an upper end, and a list type is a list.",
+    "A clause is what is proved of a public call. The pages below have each definition that a clause cites, and each that such a definition rests on, with "
+    "its sentence, file and line; other definitions are only named, below the table of their crate. The sentence is short; if it differs from the file, the "
+    "file decides. Numbers are natural numbers without an upper limit, and each list type of the code is a plain list.",
     definitions_of,
 )
 CALLS = Kind(
@@ -96,28 +100,26 @@ def pages(sources: Sources) -> dict[Path, str]:
         by_layer: dict[str, list[str]] = {}
         for crate in sections:
             by_layer.setdefault(layers.names[crate], []).append(crate)
-        index = [f"# {kind.title}\n", MADE, f"{kind.opening}\n", "Each layer of crates has a page, from below:\n"]
-        entries = [f"All {kind.title.lower()}: {inside(kind.index)}"]
+        index = [f"# {kind.title}\n", MADE, f"{kind.opening}\n", "Each crate has a page. The lowest layer of crates comes first:\n"]
+        entries = [f"- All {kind.title.lower()}: {inside(kind.index)}"]
         for layer, crates in by_layer.items():
-            page = PAGES / kind.folder / f"{layers.short(layer)}.md"
-            here = f"{kind.folder}/{page.name}"
-            index.append(f"- [{layer}]({here}): {', '.join(f'[{crate}]({here}#{crate})' for crate in crates)}")
-            entries.append(f"{layer}: {inside(page)}")
-            made[page] = layer_page(kind, layer, layers, {crate: sections[crate] for crate in crates})
+            index.append(f"- {layer}: {', '.join(f'[{crate}]({kind.folder}/{crate}.md)' for crate in crates)}")
+            entries += [f"- {layer}:", *(f"    - {crate}: {inside(kind.page(crate))}" for crate in crates)]
+        made |= {kind.page(crate): crate_page(kind, crate, layers, section) for crate, section in sections.items()}
         made[kind.index] = "\n".join(index) + "\n"
         navigation = with_entries(navigation, kind.title, entries)
     return made | {NAVIGATION: navigation}
 
 
-def layer_page(kind: Kind, layer: str, layers: Layers, sections: dict[str, list[str]]) -> str:
-    """The page of a layer, which begins with the words that occur on it, and ends with where the crates lie that it refers to."""
+def crate_page(kind: Kind, crate: str, layers: Layers, section: list[str]) -> str:
+    """The page of a crate, which begins with the words that occur on it, and ends with where the crates are described that it refers to."""
+    layer = layers.names[crate]
     back = f"[All {kind.title.lower()}](../{kind.folder}.md) says how to read this page."
-    told = [f"# {kind.title}: {layer}\n", MADE, f"A layer of crates: {layers.said[layer]}. {back}\n"]
-    told += words.table({layers.short(layer): "\n".join(it for section in sections.values() for it in section)})
-    for crate, section in sections.items():
-        told += [f"## {crate}\n", *section]
-    cited = sorted(set(re.findall(r"`\]\[(\w+)\]", "\n".join(told))))
-    told += [f"[{crate}]: ../{DEFINITIONS.folder}/{layers.short(layers.names[crate])}.md#{crate}" for crate in cited]
+    told = [f"# {kind.title} of {crate}\n", MADE, f"A crate of the layer \"{layer}\". {back}\n"]
+    told += words.table({layers.short(layer): "\n".join(section)})
+    told += section
+    cited = sorted(set(re.findall(r"`\]\[(\w+)\]", "\n".join(section))))
+    told += [f"[{it}]: ../{DEFINITIONS.folder}/{it}.md" for it in cited]
     return "\n".join(told).rstrip("\n") + "\n"
 
 
@@ -127,5 +129,5 @@ def inside(page: Path) -> str:
 
 def with_entries(navigation: str, title: str, entries: list[str]) -> str:
     """The navigation with these entries under a title, in place of those that it has."""
-    told = "".join(f"          - {entry}\n" for entry in entries)
+    told = "".join(f"          {entry}\n" for entry in entries)
     return re.sub(rf"^(      - {title}:\n)(?: {{10}}.*\n)*", lambda found: f"{found[1]}{told}", navigation, flags=re.MULTILINE)

@@ -31,10 +31,9 @@ def lines(file: Path) -> list[str]:
     return file.read_text().splitlines()
 
 
-def sections(page: Path) -> dict[str, str]:
-    """The text of each crate in a page of definitions or calls."""
-    _, *parts = re.split(r"^## (\w+)\n", page.read_text(), flags=re.MULTILINE)
-    return dict(zip(parts[::2], parts[1::2]))
+def layer(page: str) -> str:
+    """The layer of the crate that a page is about, as docs/data/words.toml names it."""
+    return re.sub(r"^the (program )?| of .*", "", page.partition('A crate of the layer "')[2].partition('"')[0].lower()).replace(" ", "-")
 
 
 class Reference(unittest.TestCase):
@@ -79,35 +78,36 @@ class Reference(unittest.TestCase):
                 self.assertEqual((file, told), (Path(path).name, line))
                 self.assertIn(name, lines(page.parent / path)[int(line) - 1], f"{page.name}: {name}")
 
-    def test_the_pages_of_definitions_and_calls_lead_to_the_section_of_each_crate(self):
+    def test_the_pages_of_definitions_and_calls_lead_to_the_page_of_each_crate(self):
         for kind in ("definitions", "calls"):
             index, pages = (REFERENCE / f"{kind}.md").read_text(), sorted(REFERENCE.glob(f"{kind}/*.md"))
             self.assertTrue(pages)
-            found = [(f"{kind}/{page.name}", crate) for page in pages for crate in sections(page)]
-            self.assertEqual(sorted(re.findall(r"\(([^)#]+)#(\w+)\)", index)), sorted(found))
-            self.assertEqual(len({crate for _, crate in found}), len(found))
+            self.assertEqual(sorted(re.findall(r"\[(\w+)\]\(([^)#]+)\)", index)), sorted((page.stem, f"{kind}/{page.name}") for page in pages))
             for page in pages:
-                self.assertIn(f"({kind}/{page.name}):", index)
                 self.assertIn(f"](../{kind}.md)", page.read_text())
 
     def test_what_a_clause_cites_leads_to_its_definition(self):
-        defined = {crate: text for page in REFERENCE.glob("definitions/*.md") for crate, text in sections(page).items()}
+        defined = {page.stem: page.read_text() for page in REFERENCE.glob("definitions/*.md")}
         for page in REFERENCE.glob("calls/*.md"):
             text = page.read_text()
             cited = set(re.findall(r"\[`([^`]+)`\]\[(\w+)\]", text))
-            self.assertEqual({crate for _, crate in cited}, set(re.findall(r"^\[(\w+)\]: \.\./definitions/\S+#\1$", text, re.MULTILINE)))
+            self.assertEqual({crate for _, crate in cited}, set(re.findall(r"^\[(\w+)\]: \.\./definitions/\1\.md$", text, re.MULTILINE)))
             for name, crate in cited:
                 self.assertIn(f"`{name}`", defined[crate].partition("Cited by no clause")[0], f"{page.name}: {name}")
 
     def test_each_word_is_listed_on_a_page_of_each_of_its_layers(self):
         """And no page lists a word twice."""
-        listed = {page: re.findall(r"^\| ([^|]+) \|", page.read_text().partition("\n## ")[0], re.MULTILINE)[1:] for page in REFERENCE.glob("*/*.md")}
-        for told in listed.values():
+        listed: dict[str, set[str]] = {}
+        for page in REFERENCE.glob("*/*.md"):
+            text = page.read_text()
+            table = text.partition("| Word | Means |\n|---|---|\n")[2].partition("\n\n")[0]
+            told = re.findall(r"^\| ([^|]+) \|", table, re.MULTILINE)
             self.assertEqual(len(set(told)), len(told))
+            listed.setdefault(layer(text), set()).update(told)
         for row in tomllib.loads((TOP / "docs" / "data" / "words.toml").read_text())["word"]:
-            for layer in row.get("layers", ["*"]):
-                with self.subTest(f"{row['word']}: {layer}"):
-                    self.assertIn(row["word"], {word for page, told in listed.items() if page.match(f"{layer}.md") for word in told})
+            for used in row.get("layers", ["*"]):
+                with self.subTest(f"{row['word']}: {used}"):
+                    self.assertIn(row["word"], set.union(*listed.values()) if used == "*" else listed[used])
 
 
 if __name__ == "__main__":

@@ -6,7 +6,7 @@
 //! value here: whoever runs the agents boxes each one and puts it into a cell with its ends. The
 //! cells are then ready to run. [`make_each`] has the loop for it, and needs no box. When the run
 //! has ended, [`outcome_of`] reads the outcome of the agents from the cells. [`workers_share`] says
-//! whether cells pay for a run at all.
+//! whether workers share a run in cells at all.
 #![tactic(auto)]
 
 mod agent;

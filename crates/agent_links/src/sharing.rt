@@ -19,11 +19,12 @@ const AGENT_CELLS: u64 = 16_384;
 const THREAD_CELLS: u64 = 1_048_576;
 
 /// Whether workers share the agents of a run, in cells. Otherwise one thread plays them alone,
-/// without cells and links. No clause depends on this choice: it only says whether sharing pays.
+/// without cells and links. No clause depends on this choice.
 ///
-/// If each worker gets one agent at most, they share. Otherwise they share only DPOP agents, and
-/// only if threads save more cells of joined tables than they cost. Token agents and ADOPT agents
-/// mainly answer each other: on several threads they send more messages than the threads save.
+/// If each worker gets one agent at most, they share, whether or not it pays. Otherwise they share
+/// only DPOP agents, and only if threads save more cells of joined tables than they cost. Token
+/// agents pass on one token, so threads save nothing. ADOPT agents mainly answer each other: on
+/// several threads they may send more messages than the threads save.
 ///
 /// # Errors
 ///

@@ -50,8 +50,9 @@ module _ {X : Type 0} {F : X → Type 0} where
   StaysOrFails meaning fault before after = (after ≡ before)
       ⊎ ((fault_in before ≡ None) × FailsUnder meaning fault (state_of meaning before) after)
 
-  -- R holds of the cell's state before and after, and the cell has the fault that it had, if any; a
-  -- cell that had failed has at most been settled
+  -- the given relation R holds between the cell's states before and after, and the cell has the
+  -- fault that it had, if any; of a cell that had failed nothing has changed but what it knows of
+  -- its links
   pub record GoesOn (meaning : DynBox X Global F → View) (R : CellState → CellState → Type 0) (before after : Cell X F) : Type 0 where
     pub gone : R (state_of meaning before) (state_of meaning after)
     pub fault : fault_in after ≡ fault_in before
@@ -65,9 +66,10 @@ module _ {X : Type 0} {F : X → Type 0} where
   abbrev pub failures : List (Cell X F) → ℕ
   failures cells = sum_by failure cells
 
-  -- cells whose playing a fault has cut short; some may have failed before. Each has gone on by R,
-  -- and all together took at most `limit` messages for each of them. Since then each cell has not
-  -- changed, or a visit of it has failed. At most `most_failed` more have failed than before.
+  -- cells whose playing a fault has cut short; some may have failed before. Up to some moment each
+  -- cell went on, with the relation R (`GoesOn`), and the cells together took at most `limit` times
+  -- as many messages as there are cells. Since that moment each cell has not changed, or a visit of
+  -- it has failed. At most `most_failed` more cells have failed than before
   pub record AreCutShort (meaning : DynBox X Global F → View) (fault : VisitFault) (R : CellState → CellState → Type 0) (limit most_failed : ℕ) (before after : List (Cell X F)) : Type 0 where
     pub stood : List (Cell X F)
     pub gone : EachBecomes (GoesOn meaning R) before stood
@@ -75,10 +77,10 @@ module _ {X : Type 0} {F : X → Type 0} where
     pub came : EachBecomes (StaysOrFails meaning fault) stood after
     pub few : failures after ≤ failures before + most_failed
 
-  -- the same by their states, of cells of which none had failed: for each cell, R holds of its state
-  -- before and of a later state; up to these states the cells together took at most `limit` times as
-  -- many messages as there are cells; since then each cell has not changed, or a visit of it has
-  -- failed; at most `most_failed` cells have failed
+  -- the same, told by the states of cells of which none had failed: for each cell, R holds of its
+  -- state before and of a later state; up to these states the cells together took at most `limit`
+  -- times as many messages as there are cells; since then each cell has not changed, or a visit of
+  -- it has failed; at most `most_failed` cells have failed
   pub record ArePartlyPlayed (meaning : DynBox X Global F → View) (fault : VisitFault) (R : CellState → CellState → Type 0) (limit most_failed : ℕ) (before : List CellState) (after : List (Cell X F)) : Type 0 where
     pub stood : List CellState
     pub gone : EachAre R before stood
@@ -86,8 +88,8 @@ module _ {X : Type 0} {F : X → Type 0} where
     pub came : EachAre (StandsOrFails meaning fault) stood after
     pub few : failures after ≤ most_failed
 
-  -- cells that had started were played in rounds under a budget, and then in one more round by at
-  -- most `workers` workers, which was broken off
+  -- cells that had started were played in rounds under a budget, and then in a part of one more
+  -- round; at most `workers` cells have failed in it
   pub record HaveBrokenOff (meaning : DynBox X Global F → View) (fault : VisitFault) (workers budget : ℕ) (started : List CellState) (after : List (Cell X F)) : Type 0 where
     pub before : List CellState
     pub played : ArePlayed budget started before

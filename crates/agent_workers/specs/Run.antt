@@ -32,13 +32,13 @@ module _ {X : Type 0} {F : X → Type 0} where
     pub started : (i : ℕ) (a b : Cell X F) → slice_get before i ≡ Some a → slice_get after i ≡ Some b → i < done → HasStarted meaning a b
     pub rest : (i : ℕ) (a b : Cell X F) → slice_get before i ≡ Some a → slice_get after i ≡ Some b → done ≤ i → b ≡ a
 
--- each of these rounds began with an agent that had not ended, and took something; the list has the
--- cells after each round
+-- when each of these rounds began, some agent had not ended; and each round took something; the
+-- list has the cells after each round
 abbrev pub AreBusy : List CellState → List (List CellState) → Type 0
 AreBusy before [] = Unit {0}
 AreBusy before (next ∷ rounds) = (all_ended before ≡ false) × (total before < total next) × AreBusy next rounds
 
--- each of these rounds began with an agent that had not ended, and each but the last took
+-- when each of these rounds began, some agent had not ended; and each round but the last took
 -- something; the list has the cells after each round
 abbrev pub AreDue : List CellState → List (List CellState) → Type 0
 AreDue before [] = Unit {0}
@@ -51,7 +51,7 @@ pub record ArePlayedIn (budget : ℕ) (Such : List CellState → List (List Cell
   pub such : Such started rounds
 
 -- cells whose agents were made with these views have started and were played in rounds under a
--- budget; each round began with an agent that had not ended, and each but the last took something;
+-- budget; when each round began, some agent had not ended; each round but the last took something;
 -- at the end every link is settled
 pub record AreDulyPlayed (budget : ℕ) (made : List View) (last : List CellState) : Type 0 where
   pub started : List CellState

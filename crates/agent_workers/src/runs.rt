@@ -22,11 +22,11 @@ use protocol_steps::RunEnd;
 use std::thread::{Threads, available_parallelism};
 
 /// Starts the agents of all cells, in order, and plays the cells in rounds in one node until the
-/// run has ended under this budget of deliveries. At most `workers` workers play a round, and no
-/// more than there are processors, but two if two are asked for. They share a round if enough
-/// work waits or none gets two cells; else one plays it. It allocates memory. After [`NoMemory`] each
-/// cell is still a sound cell of its agent, with its links. The clause `left` says how far the starts
-/// and the rounds came: each cell that has not failed is as they leave it.
+/// run has ended under this budget of deliveries. At most `workers` workers play a round. They
+/// share a round if enough work waits or none gets two cells; else one plays it. It allocates
+/// memory. After [`NoMemory`] each cell is still a sound cell of its agent, with its links. The
+/// clause `left` says how far the starts and the rounds came: each cell that has not failed is as
+/// they leave it.
 ///
 /// The budget is compared after the start and after each round, and not within a round. The run
 /// ends, with its number of deliveries, when every agent has ended; or one has not and the
@@ -146,9 +146,9 @@ fn play_out<R: Threads + Sync, G: Gate>(
     Ok(RunEnd::Spent { deliveries })
 }
 
-/// How many workers may share the rounds of a run if `workers` are asked for: no more than there
-/// are processors, but two if two are asked for. If the number of processors is not known, it is
-/// `workers`.
+/// How many workers may share the rounds of a run if `workers` are asked for: at least one, and at
+/// most `workers`. No clause says more. It is the number of processors, or two on one processor, if
+/// that is less than `workers`.
 pub fn useful_workers<R: Threads>(rt: &R, workers: u32) -> u32
     requires { 0 < workers }
     ensures some { 0 < result }

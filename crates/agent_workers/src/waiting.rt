@@ -10,8 +10,8 @@ pub(crate) const MESSAGE_WORK: u64 = 1;
 const TABLE_CELL_WORK: u64 = 1_024;
 
 /// The least work for which starting threads pays: that of 1,024 cells of tables. Links without
-/// tables never have so much. Their agents mainly answer each other, and on several threads they
-/// send more messages than the threads save.
+/// tables never have so much. Token agents pass on one token. ADOPT agents mainly answer each
+/// other, and on several threads they may send more messages than the threads save.
 const LEAST_WORK: u64 = 1_048_576;
 
 /// What may wait for the cells of a round, and in how many of the parts in which workers would play

@@ -5,8 +5,8 @@ ghost use Rattle.answer_io.specs.Whole.{line_after};
 
 use problem_text::next_line;
 
-/// The number of the first line of a text that has words and ends after more than `used` bytes;
-/// `None` exactly when there is none. Lines count from 1.
+/// Of the lines of a text that have words and end behind its first `used` bytes, the number of the
+/// first; `None` exactly when there is no such line. Lines count from 1.
 pub fn line_after(text: &[u8], used: usize) -> Option<u64>
     ensures { result ≡ option_map (λ line. line.number) (line_after text.now used) }
 {

@@ -30,9 +30,10 @@ pub enum Status {
     LinkFault,
     /// What a node received is not what another node sent.
     LinkDiffers,
-    /// The report does not hold.
+    /// The report does not hold, its log has an event that cannot happen, or a search found that no
+    /// assignment is as good as asked.
     No,
-    /// There are more assignments than the plain method tries.
+    /// There are more assignments than the method plain tries, or more turns than a cut plays.
     TooMany,
 }
 

@@ -15,10 +15,11 @@ least (x ∷ xs) = fold min x xs
 abbrev pub least_cost : List CostTable → ℕ
 least_cost ts = sum_by (λ t. least t.cells) ts
 
--- what is sent of projections, which are tables without a bucket's variable, with room for this
--- many cells: `sent` are those that name variables, unchanged, except the `replaced` largest, none
--- of which fits beside them; `fixed` is the sum of the least cells of all others, or count_limit if
--- that is less
+-- what is sent of projections (tables without a bucket's variable), with room for this many cells.
+-- `sent` has, unchanged, those that name variables, except the largest of these, whose number is
+-- `replaced`; each of them has, together with the tables of `sent`, more cells than the room.
+-- `fixed` is the sum of the least cells of the projections that are not in `sent`, or count_limit
+-- if that is less
 pub record AreProjectionsKept (room : ℕ) (projections sent : List CostTable) (fixed replaced : ℕ) : Type 0 where
   pub closed : List CostTable
   pub large : List CostTable

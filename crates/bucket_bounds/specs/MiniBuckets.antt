@@ -24,7 +24,9 @@ pub record IsMiniBucket (sizes : List ℕ) (limit p room : ℕ) (bucket : Bucket
   pub groups : bucket.groups ≡ length parts
   pub sent : IsSentOf p room parts bucket.sent bucket.fixed bucket.replaced
 
--- buckets of the variables from p on: to each came the bounds of the later ones that name its variable; its room is the cells that the later ones leave, less one cell for each bucket up to its own
+-- buckets of the variables from p on: to each came the bounds of the later ones that name its
+-- variable; its room is the given number of cells, less those that the bounds of the later buckets
+-- keep, and less one for each variable from 0 to its own
 abbrev pub AreMiniBuckets : List ℕ → ℕ → ℕ → ℕ → List Bucket → Type 0
 AreMiniBuckets sizes limit cells p [] = Unit {0}
 AreMiniBuckets sizes limit cells p (bucket ∷ later) =

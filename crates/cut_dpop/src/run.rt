@@ -39,8 +39,9 @@ pub struct CutEnd {
 }
 
 /// Cuts variables so that no joined table has more than `limit` cells, and lets DPOP agents solve
-/// the slice of each turn on the tree, with `workers` workers. The first turn of least cost gives
-/// the values. `keep` says whether the tables of all turns are kept.
+/// the slice of each turn on the tree. At most `workers` workers share them, where that pays; no
+/// clause speaks of agents or workers. The first turn of least cost gives the values. `keep` says
+/// whether the tables of all turns are kept.
 ///
 /// # Errors
 ///

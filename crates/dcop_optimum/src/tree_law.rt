@@ -44,20 +44,23 @@ pub fn first_optima_of_trees_are_one()
     ensures { FirstOptimaOfTreesAreOne }
 {}
 
-/// If each variable of a pseudotree has the lowest of its best values given those of its ancestors,
-/// the values are the first optimum of the tree.
+/// If each variable of a pseudotree has, given the values of its ancestors, the lowest value at
+/// which its own tables and its children's subtree optima cost least together, then the values are
+/// the first optimum of the tree.
 pub fn best_choices_are_first()
     ensures { BestChoicesAreFirst }
 {}
 
-/// In a pseudotree of a problem, the tables that name a variable and otherwise only its ancestors
-/// are those whose deepest variable it is.
+/// In a pseudotree of a problem, a table names a variable and otherwise only its ancestors exactly
+/// if this variable is the deepest of the table.
 pub fn tables_on_paths_are_own()
     ensures { TablesOnPathsAreOwn }
 {}
 
-/// The tables of a certificate are lower bounds: each cell is at most the subtree optimum, however
-/// the tables were made.
+/// If in a pseudotree each cell of a variable's table is, for each value of the variable, at most
+/// the cost of the variable's own tables plus its children's cells, then each cell is at most the
+/// subtree optimum at its values, however the tables were made. Such tables over the separators are
+/// lower tables; a certificate of tables that holds has them.
 pub fn lower_tables_bound_optima()
     ensures { LowerTablesBoundOptima }
 {}

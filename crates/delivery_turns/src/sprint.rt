@@ -20,8 +20,8 @@ use std::alloc::Global;
 /// The most turns of a round.
 const MOST_TURNS: usize = 32;
 
-/// The greatest number of turns in a round of the code is the greatest number of an agent's events
-/// in a round of the definitions.
+/// The limit of turns in a round that the code has equals the limit of an agent's events in a round
+/// that the definitions have.
 pub fn turns_agree()
     ensures { MOST_TURNS ≡ most_events }
 {}

@@ -32,7 +32,7 @@ use std::alloc::Global;
 /// Checks whether a report with this log shows that no values are better by more than its gap.
 ///
 /// The verdict is yes, with the cost and the gap, exactly when the report holds with the log: the
-/// log is a run of the ADOPT agents of the problem solved on its depth-first tree, for the report's
+/// log is a run of ADOPT agents on the problem solved, on its depth-first tree, for the report's
 /// error, with right stamps; the report describes its end; and if it is solved, its gap is at most
 /// the error. The cost is then worse than the best sum of the file by at most the gap, whoever made
 /// the report. Otherwise the verdict is no, with the first difference: the first event that is not

@@ -18,7 +18,7 @@ use dcop_base::{MAX_VARIABLES, Problem, Val, VarId};
 use delivery_core::CoreState;
 use problem_text::ProblemFile;
 
-/// The first difference of a report from the end of a run of the agents of the problem solved.
+/// The first difference of a report from the end of a run of the agents on the problem solved.
 pub(crate) fn end_difference(
     file: &ProblemFile,
     problem: &Problem,

@@ -1,6 +1,6 @@
 //! Checking reports with a log.
 //!
-//! [`check_log`] plays the log of a report as a run of the ADOPT agents of the problem solved, on
+//! [`check_log`] plays the log of a report as a run of the ADOPT agents on the problem solved, on
 //! its depth-first tree. It says whether the report describes the end of that run, or gives the
 //! first difference. It trusts neither the report nor its maker. [`start_for`] gives the start of
 //! that run.

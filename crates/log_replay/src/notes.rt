@@ -174,7 +174,7 @@ fn merged(alloc: Global, notes: Notes) -> Result<Log, NoMemory>
     merge(alloc, &journals)
 }
 
-/// The log of a run, by stamp and then agent, exactly if notes of it were kept.
+/// The log of a run, ordered by stamp and then by agent; `None` exactly if no notes were kept.
 ///
 /// # Errors
 ///

@@ -81,9 +81,9 @@ error_difference Solved error gap = if nat_lt error gap then Some (Error error g
 error_difference Spent error gap = None
 
 -- the first difference of the numbers: the cost must be that of the values; the bounds must be
--- those that follow from the bounds of the root's agent, where the cost of the values in the
--- problem solved is the upper bound if it is less; and the gap of a solved report must be at most
--- its error
+-- those that follow from two numbers: the lower bound of the root's agent, and the lesser of its
+-- upper bound, if it has one, and the cost of the values in the problem solved; and the gap of a
+-- solved report must be at most its error
 abbrev pub bound_difference : TextFile → Standing → Report → Option Differs
 bound_difference f top r =
     let least : ℕ = least_known (cost (problem_solved f) r.values) top.upper in

@@ -51,8 +51,8 @@ least_shown p values v = least_known (cost p values) (upper_bound v)
 
 -- a report describes this end of a run of agents of the problem solved: the status, the deliveries
 -- and the values are the network's; the cost is that of the values in the file's problem; and the
--- bounds are those that follow from the bounds of the root's agent, where the cost of the values in
--- the problem solved is the upper bound if it is less
+-- bounds are those that follow from two numbers: the lower bound of the root's agent, and the
+-- lesser of its upper bound, if it has one, and the cost of the values in the problem solved
 pub record TellsEnd (f : TextFile) (end : Network) (r : Report) : Type 0 where
   pub top : AdoptView
   pub is_top : IsRootAgent (problem_solved f) end top

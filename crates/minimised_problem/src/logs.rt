@@ -15,8 +15,8 @@ pub fn logs_show()
     adopt_bounds_enclose();
 }
 
-/// A report that describes the end of a run of ADOPT cells of the problem solved holds with the
-/// merged journals of the cells as its log.
+/// If a report describes the end of a run of cells with ADOPT agents on the problem solved, then
+/// the report holds with the merged journals of these cells as its log.
 pub fn merged_logs_hold()
     ensures { MergedLogsHold }
 {

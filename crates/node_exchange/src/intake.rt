@@ -14,8 +14,8 @@ use crate::read::read_letters;
 use dcop_base::{NoMemory, VarId};
 use std::alloc::Global;
 
-/// Adds the letters, which are messages with their senders, in these bytes to the links from one
-/// node to another. No two links have the same sender and receiver.
+/// Reads letters, which are messages with their senders, from these bytes, and adds them to the
+/// links from one node to another. No two links have the same sender and receiver.
 ///
 /// If the bytes are those that were sent, the answer is `None`, and each link has all that was
 /// drained of it. If the answer is a byte, the bytes are not whole frames of letters on these

@@ -4,15 +4,17 @@
 //! A letter is an envelope with its sender and its receiver. An exchange drains the links between
 //! agents of different nodes. A [`LinkPassing`] holds what was drained of one link and what has
 //! arrived on it. [`write_letters`] writes the frames of all letters from one node to another, and
-//! [`receive`] adds what came to the links. If the bytes that came are those that were sent, each
-//! link gets exactly what was drained of it. Only bytes that are not whole frames of letters on
-//! these links are refused; a refusal has the first byte that differs from what was sent.
+//! [`receive`] reads letters from bytes and adds them to the links. If the bytes that came are
+//! those that were sent, each link gets exactly what was drained of it. Only bytes that are not
+//! whole frames of letters on these links are refused; a refusal has the first byte that differs
+//! from what was sent.
 //!
-//! Each pair of nodes has a pair of wires. [`pass_all`] sends what an exchange drained of each link
-//! over the wires between its nodes, in both directions at once, and adds what came to the links.
-//! Over joined wires, such as those of an honest dialer, exactly what was drained of a link arrives
-//! on it. So it does over wires that tell at the end that each has received all that the other one
-//! has sent. Over other wires anything may arrive that is made of whole frames of letters.
+//! Each pair of nodes has a pair of wires. For each link, [`pass_all`] sends what an exchange
+//! drained of it over the wires between its nodes, in both directions at once, and adds to it what
+//! arrived for it. Over joined wires, such as those of an honest dialer, exactly what was drained
+//! of a link arrives on it. So it does over wires that tell at the end that each has received all
+//! that the other one has sent. Over other wires anything may arrive that is made of whole frames
+//! of letters.
 #![tactic(auto)]
 
 mod busy;

@@ -23,9 +23,9 @@ use std::thread::Threads;
 use std::time::Clock;
 use wire_pump::Dialer;
 
-/// Sends what was drained of each link over the wires between its two nodes, and adds what came to
-/// the links. The wires are in the order of the pairs of nodes: (0, 1), (0, 2) and so on. It may
-/// wait.
+/// For each link, sends what was drained of it over the wires between its two nodes, and adds to it
+/// what arrived for it. The wires are in the order of the pairs of nodes: (0, 1), (0, 2) and so on.
+/// It may wait.
 ///
 /// # Errors
 ///

@@ -5,8 +5,9 @@ use Rattle.dcop_base.specs.Table.{CostTable}
 use Rattle.problem_text.specs.File.{TextFile}
 use Rattle.problem_order.specs.Order.{IsOrder}
 
--- a table for variables in another order: its scope has the same variables in the same order, by
--- their new numbers, which are places of the order; so its cells stay where they are
+-- a table after the problem's variables were put into this order: its scope names the same
+-- variables, each at its old place in the scope, by its new number, which is its place in the
+-- order; so the cells stay where they are
 pub record IsTableFor (order : List ℕ) (old new : CostTable) : Type 0 where
   pub within : All (λ v. v < length order) new.scope
   pub scope : map (slice_index order) new.scope ≡ old.scope

@@ -17,7 +17,7 @@ pub fn reordered_files_keep_their_lines()
     ensures { ReorderedFilesKeepTheirLines }
 {}
 
-/// A file and an order give one file by [`narrower`](crate::narrower).
+/// For the same file and the same order, [`narrower`](crate::narrower) always gives the same file.
 pub fn narrowed_files_are_one()
     ensures { NarrowedFilesAreOne }
 {}

@@ -9,15 +9,15 @@ use Rattle.protocol_steps.specs.Step.{start_of, step_of}
 use Rattle.protocol_steps.specs.Network.{Desk, Network, start_state, messages_to, taken_from, takes_at, link, batch}
 use Rattle.protocol_steps.specs.Run.{happen}
 
--- how many messages from agent j agent i has taken
+-- how many messages agent i has taken from agent j
 abbrev pub taken_at : List Desk → ℕ → ℕ → ℕ
 taken_at ds i j = taken_from j (takes_at (slice_get ds i))
 
--- what agent j sends to agent i in an event of `agent`
+-- what agent j sends to agent i in an event of `agent`; nothing if `agent` is not j
 abbrev pub sent_in : ℕ → ℕ → ℕ → List (ℕ × Message) → List Message
 sent_in agent j i sends = if agent == j then messages_to i sends else []
 
--- how many messages from agent j agent i takes in an event of `agent`
+-- how many messages agent i takes from agent j in an event of `agent`; 0 if `agent` is not i
 abbrev pub taken_in_event : ℕ → ℕ → ℕ → List Take → ℕ
 taken_in_event agent i j ts = if agent == i then taken_from j ts else 0
 

@@ -46,10 +46,11 @@ pub record EndsAt (n : ℕ) (net : Network) (ds : List Deed) (now : ℕ → Acco
   pub leads : run net (map event_of ds) ≡ Some end
   pub shows : Shows n end now
 
--- the stamp law: accounts show a network, on whose links what was taken is the first part of what
--- was sent, and each agent's activations may follow its account; then all these activations,
--- ordered by piece, such as a round, and in each piece by stamp, are a run from this network to the
--- one that the accounts show after them
+-- the stamp law. Let accounts show a network, on whose links what was taken is the first part of
+-- what was sent. Let activations be given in pieces (`ArePieces`), such as rounds, each in order of
+-- the stamps, and let each agent's activations in all pieces be such as may follow its account.
+-- Then all these activations, piece by piece, are a run from this network to the one that the
+-- accounts show after them
 abbrev pub StampsOrder : Type 0
 StampsOrder = (n : ℕ) (net : Network) (now : ℕ → Account) (pieces : List (List Deed)) → Shows n net now → TakenIsPrefix now
     → ((i : ℕ) → AreDeeds n (now i) (deeds_of i (all_of pieces))) → ArePieces now pieces → EndsAt n net (all_of pieces) (after_all now (all_of pieces))

@@ -10,13 +10,16 @@ ghost use Rattle.protocol_steps.specs.RoundBounds.{RoundsAreBounded};
 ghost use Rattle.protocol_steps.specs.StampLaw.{StampsOrder};
 ghost use Rattle.protocol_steps.specs.JournalStamps.{StartsShow, JournalsOrder};
 
-/// What an agent is given of a problem is knowledge from which an agent may be made.
+/// What an agent is given of a problem is consistent, so an agent may be made from it: its
+/// neighbours ascend, do not include the agent and have one size each; its tables are over the
+/// agent and its neighbours; all numbers are in range.
 pub fn private_is_knowledge()
     ensures { PrivatesAreKnowledge }
 {}
 
-/// What an agent is given of a problem without the costs is knowledge from which an agent may be
-/// made.
+/// What an agent is given of a problem without the costs is consistent, so an agent may be made
+/// from it: its neighbours ascend, do not include the agent and have one size each; all numbers are
+/// in range.
 pub fn acquaintance_is_knowledge()
     ensures { AcquaintancesAreKnowledge }
 {}
@@ -53,9 +56,10 @@ pub fn journals_decide()
     ensures { JournalsDecide }
 {}
 
-/// The stamp law: activations, each of which fits what its agent alone did before, are a run when
-/// they are ordered by piece, such as a round, and in each piece by stamp, if at the end of each
-/// piece what was taken on each link is the first part of what was sent.
+/// The stamp law: activations ordered by piece, such as a round, and in each piece by stamp, are a
+/// run if those of each agent may follow its account, and if at the end of each piece what was
+/// taken on each link is the first part of what was sent. The run starts from the network that the
+/// accounts show; there too, what was taken must be the first part of what was sent.
 pub fn stamps_order()
     ensures { StampsOrder }
 {}
@@ -66,9 +70,10 @@ pub fn starts_show()
     ensures { StartsShow }
 {}
 
-/// The stamp law for journals: the activations that are given by agents' journals and the lists of
-/// messages that they took are a run from the start state, ordered by piece and in each piece by
-/// stamp. The journals agree with this run.
+/// The stamp law for journals: under the premises of the stamp law, the activations that agents'
+/// journals give, ordered by piece and in each piece by stamp, are a run from the start state. A
+/// journal gives them together with the messages that its agent took from each sender. The journals
+/// agree with this run.
 pub fn journals_order()
     ensures { JournalsOrder }
 {}

@@ -142,8 +142,8 @@ impl<M: Maker, A: Ledger, B: Ledger> ReplyCache<M, A, B> {
         self.finds.len() as u64
     }
 
-    /// A proof step: if a share has all parts of the counts of looks and of misses, its counts are
-    /// the looks and the misses of the cache. It changes no count.
+    /// A proof step: a share that has all parts of both counts, that of looks and that of misses,
+    /// has counted all looks and all misses of the cache. It changes no count.
     pub fn audit(&mut self, share: &mut LookShare<A, B>)
         requires whole { (share.old.looks.parts ≡ A.parts) × (share.old.misses.parts ≡ B.parts) }
         ensures same { self.new ≡ self.old }

@@ -40,8 +40,8 @@ table_in_turn names sizes turns tables words =
     if tells_other names (first_tables turns) words then Err BadLine
     else util_line names sizes.slice tables words
 
--- the values that these words give for a turn. Before it come these turns, and one more, which has
--- these tables; in that one each variable must have its table
+-- the values that the words of a line `turn` give. The line ends the turn before it, which comes
+-- after `turns` and has `tables`: each variable must have its table there
 abbrev pub turn_behind : List (List ℕ) → CutSizes → List Turn → List Util → List (List ℕ) → Result (List ℕ) ReportKind
 turn_behind names sizes turns tables words =
     if lacks_util tables (length names) then Err BadLine

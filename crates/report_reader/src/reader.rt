@@ -263,7 +263,7 @@ fn ended(utils: Vec<Util>, count: usize) -> Result<UtilList, LineEnd<ReportKind>
     Ok(UtilList::from_vec(utils))
 }
 
-/// The table that a line gives, after these tables.
+/// The table that a line declares, if these are the tables of the lines before it.
 fn util_at(
     alloc: Global,
     file: &ProblemFile,

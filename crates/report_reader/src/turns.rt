@@ -182,7 +182,8 @@ fn next_turn(
     turn_of(alloc, sizes.own.as_slice(), turns.len() + 1, text)
 }
 
-/// The table that a line gives, after these tables, in the turn after these turns.
+/// The table that a line declares, if these are the tables of the lines before it, in the turn
+/// after these turns.
 fn next_table(
     alloc: Global,
     names: &Names,

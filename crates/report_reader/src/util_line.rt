@@ -21,7 +21,7 @@ use dcop_base::{CellList, MAX_VARIABLES, NoMemory, VarId, VarList, product_of, r
 use problem_text::{LineEnd, Names, ReportKind, is_word, next_word, past_colon, variable_of_word};
 use std::alloc::Global;
 
-/// The table that a line `util` gives, after these tables.
+/// The table that a line `util` declares, if these are the tables of the lines before it.
 pub fn util_of(
     alloc: Global,
     names: &Names,

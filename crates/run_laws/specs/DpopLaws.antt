@@ -33,11 +33,11 @@ pub record IsWhole (p : Dcop) (paths : List (List ℕ)) (end : Network) : Type 0
   pub tables : MadeTables p paths cells end.views
   pub certificate : IsTableCertificate p (parents_of paths) (separators_of p paths) cells (map value_of end.views)
 
--- the end of a run of DPOP, whether or not all agents have ended: at most as many UTIL messages,
--- and as many VALUE messages, were delivered as there are variables other than the root, and
--- nothing else; there is an agent for each variable, `AreAgents` holds of the agents, and `IsSent`
--- of all that they have sent; a message is pending until all agents have ended, and then `IsWhole`
--- holds
+-- the end of a run of DPOP, whether or not all agents have ended: the number of UTIL messages that
+-- were delivered is at most the number of variables other than the root, and so is the number of
+-- VALUE messages; nothing else was delivered; there is an agent for each variable, `AreAgents`
+-- holds of the agents, and `IsSent` of all that they have sent; a message is pending until all
+-- agents have ended, and then `IsWhole` holds
 pub record HoldsOfDpop (p : Dcop) (paths : List (List ℕ)) (end : Network) : Type 0 where
   pub few_utils : utils end ≤ length p.sizes - 1
   pub few_values : values end ≤ length p.sizes - 1

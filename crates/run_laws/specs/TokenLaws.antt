@@ -16,10 +16,11 @@ pub record IsWhole (p : Dcop) (end : Network) : Type 0 where
   pub all_dones : dones end ≡ length p.sizes - 1
   pub places : FoundPlaces p end.views
 
--- the end of a run of tokens, whether or not all agents have ended: at most as many TOKEN messages,
--- and as many DONE messages, were delivered as there are variables other than the root, and nothing
--- else; there is an agent for each variable, and `AreAgents` holds of the agents; a message is
--- pending until all agents have ended, and then `IsWhole` holds
+-- the end of a run of tokens, whether or not all agents have ended: the number of TOKEN messages
+-- that were delivered is at most the number of variables other than the root, and so is the number
+-- of DONE messages; nothing else was delivered; there is an agent for each variable, and
+-- `AreAgents` holds of the agents; a message is pending until all agents have ended, and then
+-- `IsWhole` holds
 pub record HoldsOfTokens (p : Dcop) (end : Network) : Type 0 where
   pub few_tokens : tokens end ≤ length p.sizes - 1
   pub few_dones : dones end ≤ length p.sizes - 1

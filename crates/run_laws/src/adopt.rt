@@ -27,15 +27,16 @@ pub fn adopt_bounds_enclose()
     ensures { AdoptBoundsEnclose }
 {}
 
-/// In every run of ADOPT agents on a pseudotree no COST is ignored because its bounds cross the
-/// stored ones: if its context is part of what its receiver knows, its bounds are stored. This
+/// In every run of ADOPT agents on a pseudotree, if the context of a COST is part of what its
+/// receiver knows, the bounds of the COST do not cross the stored ones, so they are stored. This
 /// holds at every message of every batch.
 pub fn no_bounds_cross()
     ensures { NoBoundsCross }
 {}
 
-/// In every run of ADOPT agents on a linked pseudotree, for every requested error, a message is
-/// pending until all agents have ended. So in a run that cannot be extended all agents have ended.
+/// In every run of ADOPT agents on a linked pseudotree, for every requested error, at least one
+/// message is pending as long as not all agents have ended. So in a run that cannot be extended all
+/// agents have ended.
 pub fn adopt_pending()
     ensures { AdoptPending }
 {}

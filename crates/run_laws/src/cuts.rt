@@ -60,8 +60,9 @@ pub fn cut_sets_make_narrow()
     ensures { CutSetsMakeNarrow }
 {}
 
-/// The first optimum of the slice of the first turn of least cost, with the turn's own values,
-/// costs the optimum of the problem.
+/// The answer of a cut is an optimal assignment of the problem: from the first turn of least cost
+/// it has the turn's values for the cut variables, and the first optimum of the turn's slice for
+/// the others.
 pub fn cut_answers_are_optimal()
     ensures { CutAnswersAreOptimal }
 {}

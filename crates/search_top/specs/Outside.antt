@@ -13,7 +13,9 @@ pub record IsInOrder (p : Dcop) (order : List ℕ) (inside : Dcop) : Type 0 wher
   pub sizes : inside.sizes ≡ map (λ v. slice_index p.sizes v) order
   pub tables : AllZip (IsTableFor order) p.tables inside.tables
 
--- a value for each variable of the order; in that order they are the values that were found, and the cost is the same
+-- what a search found, told by the problem's own variables: a value for each variable of the order;
+-- taken in that order they are the values that the search found, and the cost is the one that it
+-- found
 pub record IsToldOutside (order : List ℕ) (inside outside : Found) : Type 0 where
   pub many : length outside.values ≡ length order
   pub values : values_at order outside.values ≡ inside.values

@@ -28,20 +28,22 @@ pub record IsFoundIn (goal : Goal) (p : Dcop) (better : Option ℕ) (found : Fou
 abbrev pub IsBoundOf : Goal → Dcop → ℕ → Type 0
 IsBoundOf goal p bound = (values : List ℕ) → IsAssignment p values → IsAtMostWorse goal 0 bound (cost p values)
 
--- a search that has ended with an assignment: its cost is at most the error worse than the bound
+-- a search that has ended with an assignment: its cost is worse than the bound by at most the error
 pub record HasSolved (asked : Asked) (r : SearchReport) : Type 0 where
   pub found : Found
   pub known : r.found ≡ Some found
   pub within : IsAtMostWorse r.goal asked.error found.cost r.bound
 
--- a search that has ended without an assignment that is better than what was asked for: the sum that was asked for is at most the error worse than the bound
+-- a search that has ended without an assignment that is better than what was asked for: the sum
+-- that was asked for is worse than the bound by at most the error
 pub record HasNoneBetter (asked : Asked) (r : SearchReport) : Type 0 where
   pub none : r.found ≡ None
   pub better : ℕ
   pub sought : asked.better ≡ Some better
   pub within : IsAtMostWorse r.goal asked.error better r.bound
 
--- a search that is spent: the nodes have reached the budget, and the cost that was found, or else the sum that was to be bettered, is more than the error worse than the bound
+-- a search that is spent: the nodes have reached the budget, and the cost that was found, or else
+-- the sum that was to be bettered, is worse than the bound by more than the error
 pub record HasSpent (asked : Asked) (r : SearchReport) : Type 0 where
   pub reached : asked.budget ≤ r.nodes
   pub apart : IfSome r.found (λ found. ¬ IsAtMostWorse r.goal asked.error found.cost r.bound)

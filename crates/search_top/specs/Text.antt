@@ -29,8 +29,9 @@ head_lines r =
     ((codes "status" ∷ ending_word r.ending ∷ []) ∷ (codes "method" ∷ codes "search" ∷ []) ∷ goal_lines r.goal)
     ++ (number_line (codes "error") r.error ∷ number_line (codes "nodes") r.nodes ∷ [])
 
--- the lines of the cost and the two bounds; the bound on the side of the assignment is its cost; if
--- there is no assignment, the cost and this bound are left out
+-- the lines of the cost and the two bounds; for goal min the upper bound, and for goal max the
+-- lower bound, is the cost of the assignment; if there is no assignment, the cost and this bound
+-- are left out
 abbrev pub bound_lines : Goal → ℕ → Option Found → List (List (List ℕ))
 bound_lines Min bound None = number_line (codes "lower") bound ∷ []
 bound_lines Max bound None = number_line (codes "upper") bound ∷ []

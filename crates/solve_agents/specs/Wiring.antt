@@ -31,21 +31,22 @@ module _ {W : Type 0} (told : W → Told) (is_joined : W → W → Type 0) where
   IsHonestWiring Rings = Unit {0}
   IsHonestWiring (Nodes plan) = IsHonest told is_joined plan
 
--- some wire is the end of a new stream; code that is written for every type of dialer can get such
--- a wire only from its dialer
+-- some wire is the end of a new stream. (Code that is generic over the dialer can get such a wire
+-- only from its dialer.)
 pub record HasNewWire {W : Type 0} (told : W → Told) : Type 0 where
   pub wire : W
   pub new : IsNew (told wire)
 
--- there is such a wire, and `honest`, which states that the dialer is honest, does not hold
+-- some wire is the end of a new stream, and `honest`, which states that the dialer is honest, does
+-- not hold
 abbrev pub HasUntrustedWire : {W : Type 0} → (W → Told) → Type 0 → Type 0
 HasUntrustedWire told honest = (¬ honest) × HasNewWire told
 
 -- one of three faults of a problem's agents in this number of nodes, in a phase of this kind. The
--- links failed; then the dialer's count of faults rose, and only then. Or agents of the problem
--- found a difference; then `untrusted` holds, which states that the wires between the nodes, or the
--- dialer that gave them, are not honest. Or memory ran out. With one node only this last fault
--- happens
+-- links failed; then the dialer's count of faults rose, and only then. Or it is a difference that
+-- agents of the problem may find; then `untrusted` holds, which states that the wires between the
+-- nodes, or the dialer that gave them, are not honest. Or memory ran out. With one node, no fault
+-- but the last one happens
 abbrev pub IsNodesFaultOf : Dcop → (Start → ℕ → Type 0) → ℕ → Type 0 → ℕ → ℕ → NodeFault → Type 0
 IsNodesFaultOf p is_phase nodes untrusted old new Failed = (1 < nodes) × (old ≤ new) × Rose old new
 IsNodesFaultOf p is_phase nodes untrusted old new (Differs d) = (1 < nodes) × (new ≡ old) × untrusted × HaveDiffered p is_phase nodes d

@@ -37,8 +37,8 @@ use std::alloc::Global;
 use std::thread::Threads;
 use worker_laws::{cells_tell_outcomes, journals_merge};
 
-/// Runs the agents of a problem from this start, by workers, in rounds, until all have ended or
-/// `budget` messages are delivered.
+/// Runs the agents of a problem from this start, in rounds, until all have ended or `budget`
+/// messages are delivered.
 fn run_agents<R: Threads + Sync, G: Gate>(
     crew: &Crew<R, G>,
     alloc: Global,
@@ -55,8 +55,8 @@ fn run_agents<R: Threads + Sync, G: Gate>(
 }
 
 /// The same, with the log of the run if it is requested. If workers do not share the agents, they
-/// are played on this thread, without cells and links. One loop plays them with a log and without
-/// one, but no clause compares the two runs.
+/// are played on this thread, without cells and links. Such a run is the same with a log and
+/// without one, by the law `runs_go_one_way` of `delivery_turns`; no clause of this call says so.
 pub(crate) fn run_logged<R: Threads + Sync, G: Gate>(
     crew: &Crew<R, G>,
     alloc: Global,

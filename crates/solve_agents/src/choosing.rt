@@ -26,8 +26,9 @@ use std::time::Clock;
 use tcp_links::NodeFault;
 use wire_pump::Dialer;
 
-/// The choice by DPOP of the agents of the problem solved for a file. They first search for its
-/// depth-first tree. If a certificate is requested, the choice includes their tables.
+/// What the agents choose by DPOP on the problem that is solved for a file, or what is too wide in
+/// its tree. They first search for its depth-first tree. If a certificate is requested, the choice
+/// includes their tables.
 ///
 /// # Errors
 ///

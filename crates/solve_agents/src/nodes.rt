@@ -76,8 +76,8 @@ impl<W: Wire> Wiring<W> {
     }
 }
 
-/// Runs the agents of a problem from this start, in the nodes of a wiring, by workers, in rounds,
-/// until all have ended or `budget` messages are delivered. The log of the run is included if it is
+/// Runs the agents of a problem from this start, in the nodes of a wiring, in rounds, until all
+/// have ended or `budget` messages are delivered. The log of the run is included if it is
 /// requested.
 ///
 /// # Errors

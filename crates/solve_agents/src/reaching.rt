@@ -25,9 +25,9 @@ use std::time::Clock;
 use tcp_links::NodeFault;
 use wire_pump::Dialer;
 
-/// What the agents of the problem solved for a file reach by ADOPT on its depth-first tree. They
-/// first search for that tree. If a certificate is requested, the result includes the log of their
-/// run.
+/// What the agents reach by ADOPT on the problem that is solved for a file, on its depth-first
+/// tree. They first search for that tree. If a certificate is requested, the result includes the
+/// log of their run.
 ///
 /// # Errors
 ///

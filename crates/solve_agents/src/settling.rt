@@ -26,8 +26,8 @@ use std::time::Clock;
 use tcp_links::NodeFault;
 use wire_pump::Dialer;
 
-/// What the agents of the problem solved for a file reach by auto: they first search for its
-/// depth-first tree, and then continue by DPOP if nothing is too wide in it, and by ADOPT
+/// What the agents reach by auto on the problem that is solved for a file: they first search for
+/// its depth-first tree, and then continue by DPOP if nothing is too wide in it, and by ADOPT
 /// otherwise.
 ///
 /// # Errors

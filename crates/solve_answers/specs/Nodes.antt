@@ -68,8 +68,8 @@ abbrev pub IsFaultNamed : ℕ → NodeFault → Type 0
 IsFaultNamed count (Differs (Message from to at sent taken)) = (from < count) × (to < count)
 IsFaultNamed count fault = Unit {0}
 
--- this answer reports a difference that the agents of a task reached, in this many nodes, on a file
--- that declares this
+-- this answer reports a difference that the agents of a task may reach, in some run in this many
+-- nodes, on a file that declares this
 pub record TellsDifference (task : FileTask) (nodes : ℕ) (d : Declared) (answer : Answer) : Type 0 where
   pub file : TextFile
   pub whole : IsProblem file.problem
@@ -78,8 +78,8 @@ pub record TellsDifference (task : FileTask) (nodes : ℕ) (d : Declared) (answe
   pub differed : HaveDiffered (problem_solved file) (IsPhaseOf task (problem_solved file)) nodes difference
   pub told : answer ≡ difference_answer file.names difference
 
--- an answer about the links between the nodes in which a task is done: they failed, or what was
--- taken is not what was sent
+-- an answer about the links between the nodes in which a task is done: that they failed, or a
+-- difference that agents may reach
 abbrev pub IsOfLinks : FileTask → ℕ → Declared → Answer → Type 0
 IsOfLinks task nodes d answer = (answer ≡ answers.Link) ⊎ TellsDifference task nodes d answer
 
@@ -119,9 +119,9 @@ IsUnreadAnswerIn nodes (Some drill) answer = IsAnswerIn drill.task nodes (declar
 IsUnreadAnswerIn nodes None answer = IsUnreadAnswer None answer
 
 -- what an answer says about links: `many` states that there is more than one node, `untrusted` that
--- the dialer is not honest and that there is a new wire; if the answer is that links failed, `many`
--- holds and the dialer's count of faults rose, and otherwise that count is unchanged; if it is that
--- links differ, `many` and `untrusted` hold
+-- the dialer is not honest and that some wire is the end of a new stream; if the answer is that
+-- links failed, `many` holds and the dialer's count of faults rose, and otherwise that count is
+-- unchanged; if it is that links differ, `many` and `untrusted` hold
 pub record TellsAnswer (many untrusted : Type 0) (old new : ℕ) (answer : Answer) : Type 0 where
   pub failed : status_of answer ≡ LinkFault → many × (old ≤ new) × Rose old new
   pub differs : status_of answer ≡ LinkDiffers → many × untrusted

@@ -18,7 +18,7 @@ use std::thread::Threads;
 
 /// The answer of the method cut on a file.
 ///
-/// The agents of the problem solved find its tree. Then the agents of each turn solve a slice, in
+/// The agents find the tree of the problem solved. Then the agents of each turn solve a slice, in
 /// which no joined table has more than `limit` cells. If it is to be certified, the report has the
 /// tables of all turns as its certificate.
 pub(crate) fn by_cut<R: Threads + Sync, G: Gate>(

@@ -43,7 +43,7 @@ pub(crate) fn edits_behind<R: Threads + Sync, G: Gate>(
 }
 
 /// The answer to edit lines on a file, which follow `before` lines of the input, over the tree that
-/// the agents of the problem solved find.
+/// the agents find for the problem solved.
 fn edits_on<R: Threads + Sync, G: Gate>(
     crew: &Crew<R, G>,
     alloc: Global,

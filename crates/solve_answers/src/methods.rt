@@ -67,7 +67,7 @@ where
     }
 }
 
-/// The answer of ADOPT on a file: what the agents of the problem solved reach on its depth-first
+/// The answer of ADOPT on a file: what the agents reach on the problem solved, on its depth-first
 /// tree. If it is to be certified, the report has the log of their run as its certificate.
 pub(crate) fn by_adopt<R, D, G>(
     crew: &Crew<R, G>,
@@ -94,7 +94,7 @@ where
     }
 }
 
-/// The answer of auto on a file: what the agents of the problem solved reach.
+/// The answer of auto on a file: what the agents reach on the problem solved.
 pub(crate) fn by_auto<R, D, G>(
     crew: &Crew<R, G>,
     alloc: Global,

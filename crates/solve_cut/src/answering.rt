@@ -26,9 +26,9 @@ use std::thread::Threads;
 
 /// The answer of the method cut on a file, from the depth-first tree of the problem solved for it:
 /// a report, or that the cut has too many turns or sends too many cells. No joined table of any
-/// turn has more than `limit` cells. `workers` workers run the agents, and each visit of an agent
-/// passes the gate. `keeps` says whether a certificate is requested: the tables of all turns are
-/// then kept and count as cells that are sent.
+/// turn has more than `limit` cells. At most `workers` workers share the agents of a turn, and each
+/// visit of an agent passes the gate; no clause speaks of these. `keeps` says whether a certificate
+/// is requested: the tables of all turns are then kept and count as cells that are sent.
 ///
 /// # Errors
 ///

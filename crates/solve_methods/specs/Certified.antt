@@ -42,8 +42,8 @@ abbrev pub IsCertified : Bool → TextFile → Report → Type 0
 IsCertified false file report = report.certificate ≡ None
 IsCertified true file report = IsCertifiedBy file report report.certificate
 
--- this is the log of the run that the ADOPT agents of the problem solved for a file made in these
--- rounds and that ends in this network, and the report holds with it
+-- on the problem that is solved for this file, the ADOPT agents made a run in these rounds, which
+-- ends in this network; this is its log, and the report holds with it
 pub record IsLogFor (file : TextFile) (rounds : List (List Event)) (end : Network) (report : Report) (log : List LogEvent) : Type 0 where
   pub run : IsLogOf (agents_for file report.error) rounds end log
   pub holds : HoldsLog file report log

@@ -85,7 +85,7 @@ pub fn reached_by(problem: &Problem, asked: Asked, ran: Logged) -> Reached
     }
 }
 
-/// The answer of ADOPT on a file: the report of what the agents of the problem solved have reached,
+/// The answer of ADOPT on a file: the report of what the agents have reached on the problem solved,
 /// with the log of their run if it is requested. The report is spent if an agent has not ended.
 pub fn adopt_answer(file: ProblemFile, asked: Asked, reached: Reached) -> Answer
     requires { HaveReached (problem_solved file) asked.error asked.budget asked.certified reached }
@@ -100,7 +100,7 @@ pub fn adopt_answer(file: ProblemFile, asked: Asked, reached: Reached) -> Answer
     }
 }
 
-/// The report of what the agents of the problem solved have reached.
+/// The report of what the agents have reached on the problem solved.
 pub(crate) fn adopt_report(file: &ProblemFile, asked: Asked, reached: Reached) -> Report
     requires whole { IsProblem file.now.problem }
     requires reached { HaveReached (problem_solved file.now) asked.error asked.budget asked.certified reached }

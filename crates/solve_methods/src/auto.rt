@@ -22,7 +22,7 @@ pub enum Settled {
 }
 
 /// The answer of auto, which is DPOP if its tables fit and ADOPT otherwise, on a file: the report
-/// of what the agents of the problem solved reached. Its error is 0 if they chose by DPOP, and the
+/// of what the agents reached on the problem solved. Its error is 0 if they chose by DPOP, and the
 /// requested error otherwise.
 pub fn auto_answer(file: ProblemFile, asked: Asked, settled: Settled) -> Answer
     requires { GivesSettled (problem_solved file) asked.error asked.budget asked.certified settled }

@@ -82,7 +82,7 @@ pub fn chosen_by(
     })
 }
 
-/// The answer of DPOP on a file, from the choice of the agents of the problem solved: a report, or
+/// The answer of DPOP on a file, from what the agents chose on the problem solved: a report, or
 /// what is too wide in their tree.
 pub fn dpop_answer(file: ProblemFile, choice: Choice) -> Answer
     requires { (certified : Bool) × GivesChosen (problem_solved file) certified choice }

@@ -4,7 +4,7 @@
 //! report nor its maker: the verdict yes means that the report holds with its certificate.
 //!
 //! [`replay_answer`] reads a report on a file and plays the first events of its log, as a run of
-//! the ADOPT agents of the problem solved on its depth-first tree. The answer is the state of each
+//! the ADOPT agents on the problem solved, on its depth-first tree. The answer is the state of each
 //! agent after them, or the first event that is not lawful. Stamps are not checked. [`read_log`]
 //! only reads the log.
 //!

@@ -111,8 +111,8 @@ pub fn fault_answer(names: Names, fault: ReplayFault) -> Result<Answer, NoMemory
     }
 }
 
-/// The end of the run of these events, from the start of the ADOPT agents of the problem solved for
-/// a file on its depth-first tree, for a requested error.
+/// The end of the run of these events, from the start of the ADOPT agents on the problem that is
+/// solved for a file, on its depth-first tree, for a requested error.
 fn played(
     alloc: Global,
     file: &ProblemFile,

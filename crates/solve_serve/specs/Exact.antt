@@ -26,7 +26,8 @@ end_behind [] served = ends.Closed served
 end_behind (b ∷ bs) served = ends.Cut served
 
 -- the end of a session on the frames of these payloads and this rest, which is less than a frame
--- or, if `stuck`, begins with a length field that is too long; the limit of replies comes first
+-- or, if `stuck`, begins with a length field above the limit; if there are at least session_limit
+-- payloads, the end is that of the limit of replies, whatever follows
 abbrev pub end_for : List (List ℕ) → List ℕ → Bool → SessionEnd
 end_for payloads rest stuck =
     if nat_le session_limit (length payloads) then ends.Limit session_limit

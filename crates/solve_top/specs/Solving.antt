@@ -41,8 +41,8 @@ use Rattle.answer_io.specs.Inputs.{input_read}
 use Rattle.answer_io.specs.Fronts.{front_read, lines_in}
 
 -- a call on these words found an answer and showed it, or its sink failed after a prefix of it;
--- `untrusted` states that its dialer is not honest and that there is a new wire, and the dialer's
--- count of faults was `old` and is `new`
+-- `untrusted` states that its dialer is not honest and that some wire is the end of a new stream,
+-- and the dialer's count of faults was `old` and is `new`
 pub record Solves (words : List (List ℕ)) (untrusted : Type 0) (old new : ℕ) (source source' : SourceState) (sink sink' : SinkState) (status : Status) : Type 0 where
   pub answer : Answer
   pub answered : Answered words source source' answer

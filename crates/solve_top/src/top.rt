@@ -32,7 +32,8 @@ use wire_pump::Dialer;
 ///
 /// `solve` reads a problem and reports an assignment:
 ///
-/// * with `--method plain`, which tries all assignments, its sum is the best of any;
+/// * with `--method plain`, which tries all assignments, its sum is the best of any, unless there
+///   are too many assignments;
 /// * with `--method dpop`, by agents on a tree, its sum is the best of any, unless their tables
 ///   would be too wide;
 /// * with `--method adopt`, by agents that agree step by step, its sum is at most the requested
@@ -45,22 +46,23 @@ use wire_pump::Dialer;
 ///   more cells than `--cells`.
 ///
 /// `drill` reads nothing: it makes a problem from a number, solves it by one of these methods and
-/// writes a summary. `check` reads a problem and the report after it. It says whether the report's
-/// certificate holds, so that its cost is at most the printed gap worse than the best sum. `replay`
-/// reads these too, replays the report's log as far as asked, and writes the state that each agent
-/// reaches. `tree` reads a problem and writes the tree over which its agents work. `upgrade` reads
-/// a problem and writes it in the newest version of its text. With `--format wcsp` all of these but
-/// `drill` read a WCSP text as their problem. `edit` reads a problem and the edit lines after it.
-/// At each line that asks for it, it writes the optimum of the problem as edited so far: the values
-/// and the cost that DPOP gives.
+/// writes a summary, or the refusal. `check` reads a problem and the report after it. It says
+/// whether the report's certificate holds, so that its cost is at most the printed gap worse than
+/// the best sum. `replay` reads these too, replays the report's log as far as asked, and writes the
+/// state that each agent reaches. `tree` reads a problem and writes the tree over which its agents
+/// work. `upgrade` reads a problem and writes it in the newest version of its text. With `--format
+/// wcsp` all of these but `drill` read a WCSP text as their problem. `edit` reads a problem and the
+/// edit lines after it. At each line that asks for it, it writes the optimum of the problem as
+/// edited so far: the values and the cost that DPOP gives.
 ///
 /// With `--nodes` the agents of `dpop`, `adopt` and `auto` are spread over `n` nodes, which talk
 /// over wires that the dialer gives. The answer then needs no trust in these wires.
 ///
-/// [`Status::ReadFault`], [`Status::WriteFault`] and [`Status::LinkFault`] come only if the source,
-/// the sink or the dialer failed in this call. [`Status::LinkDiffers`] comes only if the dialer is
-/// not honest and there is a new wire: code for any type of dialer gets one only from its dialer.
-/// The last two come only with more than one node.
+/// [`Status::ReadFault`], [`Status::WriteFault`] and [`Status::LinkFault`] come only if the count
+/// of faults of the source, the sink or the dialer rose in this call, or is at its limit.
+/// [`Status::LinkDiffers`] comes only if the dialer is not honest and there is a new wire: code for
+/// any type of dialer gets one only from its dialer. The last two come only with more than one
+/// node.
 ///
 /// With `WriteFault` a prefix of the answer is written. If that answer is that the links failed or
 /// differ, the same conditions hold. With [`Status::NoMemory`], when memory runs out, nothing is

@@ -84,8 +84,8 @@ pub record HasPartExchange (node : ℕ → ℕ) (budget : ℕ) (begun : List Wir
   pub part : IsPartExchange wires left now last
 
 module _ {X : Type 0} {F : X → Type 0} where
-  -- after some rounds under the budget and one exchange more, a round by at most `workers` workers
-  -- was broken off because memory ran out
+  -- after some rounds under the budget and one exchange more, a part of a round was played; in it
+  -- at most `workers` cells have failed because memory ran out
   pub record HavePlayedPartly (meaning : DynBox X Global F → View) (node : ℕ → ℕ) (workers budget : ℕ) (begun : List Wire) (started : List CellState) (left : List Wire) (last : List (Cell X F)) : Type 0 where
     pub wires : List Wire
     pub now : List CellState

@@ -28,8 +28,8 @@ pub record AreSameEnds (before after : InnerEnds) : Type 0 where
   pub drained : IsPrefix (taken_from before.drain) (taken_from after.drain)
   pub fed : IsPrefix (sent_on before.feed) (sent_on after.feed)
 
--- what links have noted when a run met this fault: all that was fed to the receivers, but for the
--- link that has become a new one, or for one on which memory ran out
+-- what links have noted when a run met this fault: all that was fed to the receivers; after a
+-- difference of envelopes, or if memory ran out, all but on one link
 abbrev pub AreNotedAfter : NodeFault → List Wire → List InnerEnds → Type 0
 AreNotedAfter Failed ws es = AreFedNoted ws es
 AreNotedAfter (Differs (Message from to at sent taken)) ws es = AreFedButOne ws es

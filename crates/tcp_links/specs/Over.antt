@@ -75,8 +75,8 @@ module _ {X : Type 0} {F : X → Type 0} {W : Type 0} where
   IsExchangeFault meaning round p cells left now (Differs d) = HasPassedOther meaning round p cells d × IsLostExchange p.kept.items left (states_of meaning cells) (states_of meaning now)
   IsExchangeFault meaning round p cells left now NoMemory = IsPartExchange p.kept.items left (states_of meaning cells) (states_of meaning now)
 
-  -- an exchange over a plan, and then a round by at most `workers` workers that was broken off
-  -- because memory ran out
+  -- an exchange over a plan, and then a part of a round, in which at most `workers` cells have
+  -- failed because memory ran out
   pub record HasPartRound (meaning : DynBox X Global F → View) (workers : ℕ) (before : NodePlan W) (cells : List (Cell X F)) (left : List Wire) (now : List (Cell X F)) : Type 0 where
     pub ready : List CellState
     pub exchange : IsExchange (home before.nodes before.agents) before.kept.items left (states_of meaning cells) ready

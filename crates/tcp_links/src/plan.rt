@@ -51,7 +51,8 @@ pub struct NodePlan<W: Wire> {
 }
 
 impl<W: Wire> NodePlan<W> {
-    /// Dials each pair of nodes, (0, 1), (0, 2) and so on in order. The plan has no links yet. It
+    /// Makes a plan with a new pair of wires for each pair of nodes. They are dialled in the order
+    /// (0, 1), (0, 2) and so on, which no clause says. The plan has no links yet. It
     /// takes memory, and may wait.
     ///
     /// # Errors

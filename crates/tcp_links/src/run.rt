@@ -48,7 +48,8 @@ use wire_pump::{Dialer, Wire};
 ///
 /// # Errors
 ///
-/// - [`NodeFault::Failed`] if the dialer or a wire failed: the dialer's count of faults rises.
+/// - [`NodeFault::Failed`] if the dialer or a wire failed: the dialer's count of faults rises, or
+///   is at its limit.
 /// - [`NodeFault::Differs`] only if the two values in it differ. It never comes over the plan of an
 ///   honest dialer. Nor does it come if, after the run, each wire tells that it has received all
 ///   that the other one has sent.
@@ -60,8 +61,8 @@ use wire_pump::{Dialer, Wire};
 /// anything, and the inner ends are as they were. The clauses `same` and `sound` say what else is
 /// left of the cells, and `keeps`, `noted` and `wires` of the plan. Only the link whose
 /// [`Difference::Message`] is answered is like a new one. What a link has noted really went through
-/// its inner ends, and it is all that was fed to the receiver; but after [`NodeFault::NoMemory`] one
-/// link may have noted only a first part. Only after [`NodeFault::Failed`] or
+/// its inner ends, and it is all that was fed to the receiver; but after [`NodeFault::NoMemory`]
+/// one link may have noted only a first part. Only after [`NodeFault::Failed`] or
 /// [`NodeFault::NoMemory`] may a pair of wires be gone, and no more than one.
 pub fn run_nodes<R, D, G>(
     rt: &R,

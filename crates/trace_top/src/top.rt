@@ -14,8 +14,8 @@ use program_frame::{Status, show_reply};
 use std::alloc::Global;
 
 /// Answers these words, which are the arguments of the program: reads a problem and the report with
-/// a log after it from the source, plays the log as a run of the ADOPT agents of the problem solved
-/// on its depth-first tree, writes the trace of that run to the sink, and gives the status.
+/// a log after it from the source, plays the log as a run of the ADOPT agents on the problem
+/// solved, on its depth-first tree, writes the trace of that run to the sink, and gives the status.
 ///
 /// Words, texts and faults are refused as by the program `dcop`, and so is an event that cannot
 /// happen. At most 2^28 + 65,536 bytes are taken. Each read but the last takes at least one, and

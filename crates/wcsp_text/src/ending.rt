@@ -20,8 +20,9 @@ pub fn line_of(bytes: &[u8], after: usize) -> u64
     line_behind(bytes.split_at(bytes.len().saturating_sub(after)).0)
 }
 
-/// How many bytes of the text `bytes` give its network, if `after` is what follows the network's
-/// last word: those up to and including the line of that word. No further word may be on that line.
+/// How many bytes a text has up to and including the line with the last word of its network, which
+/// is what the text declares; `after` is what follows that word. No further word may be on that
+/// line.
 pub fn used_of(bytes: &[u8], after: &[u8]) -> Result<usize, LineEnd<Fault>>
     ensures { (w : Network) → Gives (λ used. (w, used)) result
         (ended bytes.now w (length after.now) (words after.now)) }

@@ -72,7 +72,7 @@ pub struct Fault {
     pub kind: WcspKind,
 }
 
-/// What reading gives if the word before this text has a fault of this kind.
+/// The result of reading a text in which the word before this rest of it has a fault of this kind.
 pub fn fault_before(after: &[u8], kind: WcspKind) -> LineEnd<Fault>
     ensures { result ≡ ends.Fault (record { after = length after.now; kind = kind }) }
 {

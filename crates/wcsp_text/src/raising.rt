@@ -31,8 +31,8 @@ fn greatest_soft(cells: &[u64], top: u64) -> u64
     greatest
 }
 
-/// Makes cells of at least `top` hard. A cell above [`CAP`] then becomes [`CAP`], which no problem
-/// allows.
+/// Replaces each cell of at least `top` by `hard`. A cell above [`CAP`] then becomes [`CAP`], which
+/// no problem allows.
 pub fn raise(cells: &mut [u64], top: u64, hard: u64)
     ensures { cells.new ≡ map (λ c. min (raised_cell top hard c) amount_limit) cells.old }
 {

@@ -5,9 +5,8 @@ use Rattle.wire_pump.specs.Wire.{Told, told_more, counted_more}
 use Rattle.wire_pump.specs.declared.ends.Lane.{Lane}
 use Rattle.wire_pump.specs.declared.ends.Ends.{Ends}
 
--- where a direction starts, which is the way of the bytes from one end to the other: the bytes that
--- the one end had sent until then, and those that the other had received, if they are told; and
--- their numbers
+-- the start of a direction, which leads from one end to the other: the bytes that the one end had
+-- sent until then, and those that the other had received, if they are told; and how many of each
 pub record Before : Type 0 where
   pub sent : Option (List ℕ)
   pub received : Option (List ℕ)
@@ -21,7 +20,8 @@ start_of from to = record { sent = from.sent; received = to.received; sent_count
 
 -- since the start of a direction, its sending end has sent the first `went` of the direction's
 -- bytes, and its receiving end has received `came` bytes, which stand first in the direction's
--- buffer: exactly these if the bytes are told, and as many if the counts are below 2^64 - 1
+-- buffer. For each end: if its bytes are told, the new ones were appended; and its count rose by
+-- their number, to 2^64 - 1 at most
 pub record HasMoved (before : Before) (from to : Told) (lane : Lane) : Type 0 where
   pub sent : from.sent ≡ told_more before.sent (take lane.went lane.bytes.items)
   pub received : to.received ≡ told_more before.received (take lane.came lane.buffer.items)

@@ -8,8 +8,8 @@ use Rattle.wire_pump.specs.declared.pump.Pumped.{Pumped}
 use Rattle.wire_pump.specs.declared.pump.PumpFail.{PumpFail}
 
 -- these bytes were sent at one end after what it had sent before, and those were received at the
--- other: exactly these if the wires tell their bytes, and as many if the counts are below 2^64 - 1;
--- there are as many of both
+-- other; there are as many of both. For each end: if its bytes are told, the new ones were
+-- appended; and its count rose by their number, to 2^64 - 1 at most
 pub record HasPassed (before : Before) (from to : Told) (bytes got : List ℕ) : Type 0 where
   pub sent : from.sent ≡ told_more before.sent bytes
   pub received : to.received ≡ told_more before.received got
@@ -29,10 +29,10 @@ pub record HaveAll (a b : Told) : Type 0 where
   pub back : HasAll b a
 
 module _ {W : Type 0} (told : W → Told) (is_joined : W → W → Type 0) where
-  -- the pump ran from this state to its end: whatever is taken as the start of a direction, if
-  -- `HasMoved` holds from that start to this state, then all bytes of the direction have passed
-  -- between that start and the end; if the two wires were joined, as the ends of one connection,
-  -- they still are
+  -- the pump ran from this state to its end. For each direction, and every start (`Before`) of it:
+  -- if `HasMoved` holds from this start to this state, then `HasPassed` holds of all bytes of the
+  -- direction from this start to the end. If the two wires were joined, as the ends of one
+  -- connection, they still are
   pub record EndsFrom (e : Ends W) (p : Pumped W) : Type 0 where
     pub there : (before : Before) → HasMoved before (told e.first) (told e.second) e.there → HasPassed before (told p.first) (told p.second) e.there.bytes.items p.at_second
     pub back : (before : Before) → HasMoved before (told e.second) (told e.first) e.back → HasPassed before (told p.second) (told p.first) e.back.bytes.items p.at_first

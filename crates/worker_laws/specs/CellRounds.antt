@@ -9,7 +9,7 @@ use Rattle.worker_laws.specs.Cells.{CellState, lane, known_from, IsWired, EachAr
 use Rattle.worker_laws.specs.Visits.{IsStarted, IsQuiet}
 use Rattle.worker_laws.specs.Sprints.{IsSprint}
 
--- the link from agent j to agent i is settled, by the cells of both: what the receiver took
+-- as the cells of both show, the link from agent j to agent i is settled: what the receiver took
 -- followed by what waits is what the sender sent, and the receiver knows of at least 64 of the
 -- waiting messages, or of all if they are fewer
 pub record IsSettled (i j : ℕ) (to from : CellState) : Type 0 where

@@ -30,7 +30,9 @@ journals_of cells = map (λ c. c.journal) cells
 abbrev pub plain : List (ℕ × Message) → List Message
 plain es = map (λ e. e.1) es
 
--- the link from agent j to agent i, by the cells of both: what was taken is the first part of what was sent, and the network has the same messages on it and the same number taken
+-- the link from agent j to agent i, as the cells of both and the network show it: what was taken is
+-- the first part of what was sent; and the network has the same messages on the link, and the same
+-- number of them taken
 pub record IsLinkIn (net : Network) (i j : ℕ) (to from : CellState) : Type 0 where
   pub prefix : IsPrefix (lane j to.taken) (lane i from.sent)
   pub sent : link net.desks j i ≡ plain (lane i from.sent)

@@ -6,9 +6,9 @@ use Rattle.worker_laws.specs.Cells.{CellState, lane, known_from, EachAre}
 use Rattle.worker_laws.specs.Visits.{IsQuiet}
 use Rattle.worker_laws.specs.Wires.{Wire, drained_in, arrived_in, ArePassedOn}
 
--- the link to agent i from agent j of another node was exchanged, by the cells of both: all that
--- was sent has been drained; what was taken followed by what waits is what arrived; and the
--- receiver knows of at least 64 of the waiting messages, or of all if they are fewer
+-- as the cells of both show, the link to agent i from agent j of another node has had its exchange:
+-- all that was sent has been drained; what was taken followed by what waits is what arrived; and
+-- the receiver knows of at least 64 of the waiting messages, or of all if they are fewer
 pub record IsExchanged (wires : List Wire) (i j : ℕ) (to from : CellState) : Type 0 where
   pub drained : drained_in i j wires ≡ lane i from.sent
   pub waiting : List (ℕ × Message)

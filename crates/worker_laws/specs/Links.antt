@@ -7,9 +7,9 @@ use Rattle.worker_laws.specs.Cells.{CellState, lane, known_from}
 use Rattle.worker_laws.specs.Wires.{Wire, AreApart}
 use Rattle.worker_laws.specs.Exchanges.{IsExchanged}
 
--- one link was exchanged, by the cells at its ends: all that was sent has been drained; what was
--- taken followed by what waits is what arrived; and the receiver knows of at least 64 of the
--- waiting messages, or of all if they are fewer
+-- as the cells at its ends show, one link has had its exchange: all that was sent has been drained;
+-- what was taken followed by what waits is what arrived; and the receiver knows of at least 64 of
+-- the waiting messages, or of all if they are fewer
 pub record IsLinkExchanged (w : Wire) (to from : CellState) : Type 0 where
   pub drained : flat_map (λ p. p.drained) w.passages ≡ lane w.receiver from.sent
   pub waiting : List (ℕ × Message)
@@ -26,9 +26,9 @@ abbrev pub SayNothing : (ℕ → ℕ) → List Wire → List CellState → Type 
 SayNothing node wires cells = (i j : ℕ) (to from : CellState) → slice_get cells i ≡ Some to → slice_get cells j ≡ Some from → node i ≢ node j → LeadsNone wires i j
     → (lane i from.sent ≡ []) × (lane j to.taken ≡ [])
 
--- if no two links of a list lead from the same agent to the same agent, each of them was exchanged,
--- and agents of different nodes passed nothing where no link of the list leads, then `IsExchanged`
--- holds of every two agents of different nodes
+-- if no two links of a list have the same sender and the same receiver, if each link of the list
+-- has had its exchange, and if agents of different nodes passed nothing where no link of the list
+-- leads, then `IsExchanged` holds of every two agents of different nodes
 abbrev pub LinksAreExchanged : Type 0
 LinksAreExchanged = (node : ℕ → ℕ) (wires : List Wire) (cells : List CellState) → AreApart wires
     → ((k : ℕ) (w : Wire) (to from : CellState) → slice_get wires k ≡ Some w → slice_get cells w.receiver ≡ Some to → slice_get cells w.sender ≡ Some from → IsLinkExchanged w to from)

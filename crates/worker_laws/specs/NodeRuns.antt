@@ -25,7 +25,9 @@ NodesMakeARun = (node : ℕ → ℕ) (budget : ℕ) (made : List View) (cells af
     → AreStarted made cells → AreNodeRounds node budget begun cells rounds wires after → IsNodeEnd node wires more after last → HaveHeld more
     → IsRunInOrder budget made cells last rounds
 
--- each link is settled as it is inside one node: the rounds in nodes are rounds of cells, and after the last one every link is settled
+-- the rounds are as in one node: in each of them every link is settled first (`AreCellRounds`);
+-- after the last one nothing changes but what the cells know of their links, and then every link is
+-- settled
 pub record IsAsInOneNode (budget : ℕ) (cells after last : List CellState) (rounds : List (List CellState)) : Type 0 where
   pub rounds_are : AreCellRounds budget cells rounds after
   pub quiet : EachAre IsQuiet after last

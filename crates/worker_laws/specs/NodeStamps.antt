@@ -29,9 +29,10 @@ pub record AreBrokenOver (node : ℕ → ℕ) (budget : ℕ) (begun : List Wire)
   pub moved : EachAre IsMoved ready stood
   pub taken : EachAre HasOnlyTaken stood now
 
--- no stamp of a cell that was played until a round broke off, nor of what it took without a step,
--- is above the number of messages that were taken with a step, if in each exchange, and in one more
--- at the end, exactly what was sent arrived
+-- cells were played until a round broke off, and may then have taken messages on which they made no
+-- step. If in each exchange, and in one more at the end, exactly what was sent arrived, then no
+-- stamp of a cell or of such messages is above the number of messages on which cells have made
+-- steps
 abbrev pub NodeStampsAreFew : Type 0
 NodeStampsAreFew = (node : ℕ → ℕ) (budget : ℕ) (made : List View) (begun wires more : List Wire) (cells stood now last : List CellState) → AreStarted made cells
     → AreBrokenOver node budget begun cells wires stood now → IsNodeEnd node wires more now last → HaveHeld more

@@ -24,8 +24,8 @@ impl Cell {
         self.heads[place].0
     }
 
-    /// Whether the cell has not failed and knows of no message that waits. It does not look for
-    /// messages.
+    /// True only if the cell has not failed and knows of no message that waits. It does not look
+    /// for messages.
     pub fn rests(&self) -> bool
         ensures fine { result ≡ true → fault_in self.now ≡ None }
         ensures none { result ≡ true → (j : ℕ) → known_from j (state_of (λ b. meaning b) self.now).known ≡ 0 }

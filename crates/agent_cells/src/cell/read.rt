@@ -57,7 +57,8 @@ impl Cell {
         self.machine.place()
     }
 
-    /// The journal of the agent: an entry for each of its steps, in order.
+    /// The journal of the agent: an entry for each of its steps, in order. A visit that failed has
+    /// no entry, even if the agent made its step.
     pub fn journal(&self) -> &Journal
         ensures { result.now ≡ (state_of (λ b. meaning b) self.now).journal }
     {
