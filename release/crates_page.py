@@ -41,8 +41,8 @@ def page() -> str:
 def opening(run: dict[str, Any], count: int) -> str:
     """What the page begins with."""
     return (
-        f"The {count} crates, layer by layer from below. A crate uses only crates above it on this page. \"Uses\" leaves out a crate "
-        "if another crate in the same cell uses it. \"Used by\" counts the crates that use it, directly or through others.\n\n"
+        f"The {count} crates, the lowest layer first. A crate uses only crates that come earlier on this page. \"Uses\" leaves out a crate "
+        "that another crate named there uses. \"Used by\" counts the crates that use it, directly or through others.\n\n"
         "\"Proof\" is the processor time, in seconds, for proving a crate and building its library or program. \"Tests\" is that for its tests. "
         "\"All again\" is the processor time, in minutes, for a crate and all that use it: what a change of the crate can take. A dash means that "
         "there are no tests, or that the crate was not measured.\n\n"

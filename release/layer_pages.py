@@ -85,8 +85,8 @@ DEFINITIONS = Kind(
 CALLS = Kind(
     "calls",
     "Public calls",
-    "The pages below have each public call with the first sentence of its comment, and the clauses that the gate has proved of it, by name, each with the "
-    "definitions that it cites. A clause without a name is shown as `ensures`.",
+    "The pages below have each public call with the first sentence of its comment, and the names of its clauses (what is "
+    "[proved](../assurance/reading.md) of it), each with the definitions that it cites. A clause without a name is shown as `ensures`.",
     calls_of,
 )
 

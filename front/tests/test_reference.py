@@ -82,7 +82,7 @@ class Reference(unittest.TestCase):
         for kind in ("definitions", "calls"):
             index, pages = (REFERENCE / f"{kind}.md").read_text(), sorted(REFERENCE.glob(f"{kind}/*.md"))
             self.assertTrue(pages)
-            self.assertEqual(sorted(re.findall(r"\[(\w+)\]\(([^)#]+)\)", index)), sorted((page.stem, f"{kind}/{page.name}") for page in pages))
+            self.assertEqual(sorted(re.findall(rf"\[(\w+)\]\(({kind}/[^)#]+)\)", index)), sorted((page.stem, f"{kind}/{page.name}") for page in pages))
             for page in pages:
                 self.assertIn(f"](../{kind}.md)", page.read_text())
 

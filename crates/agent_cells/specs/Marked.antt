@@ -4,7 +4,8 @@ use Rattle.std.specs.List.{All}
 use Rattle.protocol_steps.specs.declared.message.Message.{Message}
 use Rattle.worker_laws.specs.Cells.{Lane, lane}
 
--- marks of agents before and after: there are as many, and each that was set is still set
+-- marks of agents before and after: there are as many marks, and each that was set is still set;
+-- what no mark says is told at `AreMarked` and `LeavesUnmarked`
 pub record StayMarked (before after : List Bool) : Type 0 where
   pub size : length after ≡ length before
   pub each : (j : ℕ) → slice_get before j ≡ Some true → slice_get after j ≡ Some true

@@ -25,13 +25,15 @@ pub record HeadJoins (heads : List Head) (from : ℕ) (tail : LinkTail (ℕ × M
 pub record EndsJoin (tails : List Tail) (to : ℕ) (heads : List Head) (from : ℕ) : Type 0 where
   pub each : (k : ℕ) (h : Head) → StandsAt heads k h → h.0 ≡ from → TailJoins tails to h.1
 
--- the same tails, with the same messages sent; each tail to another peer has not changed
+-- what settling the link to peer `to` does to a cell's tails: they are the same tails with the same
+-- messages sent, and each tail to any other peer has not changed
 pub record SettlesTail (before : List Tail) (to : ℕ) (after : List Tail) : Type 0 where
   pub same : AreSameTails before after
   pub sent : lanes_sent after ≡ lanes_sent before
   pub others : (k : ℕ) (t : Tail) → StandsAt before k t → t.0 ≢ to → StandsAt after k t
 
--- the same heads, with the same messages taken; each head from another peer has not changed
+-- what settling the link from peer `from` does to a cell's heads: they are the same heads with the
+-- same messages taken, and each head from any other peer has not changed
 pub record SettlesHead (before : List Head) (from : ℕ) (after : List Head) : Type 0 where
   pub same : AreSameHeads before after
   pub taken : lanes_taken after ≡ lanes_taken before

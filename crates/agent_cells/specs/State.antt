@@ -55,7 +55,7 @@ module _ {X : Type 0} {F : X → Type 0} where
     known = known_of c.heads.items;
   }
 
-  -- whether the cell has begun
+  -- whether the cell has begun: whether `begin` was called on it, even if that call failed
   abbrev pub begun_in : Cell X F → Bool
   begun_in c = c.begun
 

@@ -51,8 +51,8 @@ module _ {X : Type 0} {F : X → Type 0} where
       ⊎ ((fault_in before ≡ None) × FailsUnder meaning fault (state_of meaning before) after)
 
   -- the given relation R holds between the cell's states before and after, and the cell has the
-  -- fault that it had, if any; of a cell that had failed nothing has changed but what it knows of
-  -- its links
+  -- same fault as before, or still none; of a cell that had failed, moreover, nothing has changed
+  -- but what it knows of its links
   pub record GoesOn (meaning : DynBox X Global F → View) (R : CellState → CellState → Type 0) (before after : Cell X F) : Type 0 where
     pub gone : R (state_of meaning before) (state_of meaning after)
     pub fault : fault_in after ≡ fault_in before

@@ -86,7 +86,8 @@ EndIdle before [] = ⊥
 EndIdle before (last ∷ []) = total last ≡ total before
 EndIdle before (next ∷ (later ∷ rounds)) = EndIdle next (later ∷ rounds)
 
--- P holds if a run ended with the answer `Still`: some agent had not ended, and nothing was pending
+-- if a run ended with the answer `Still` (some agent had not ended, and nothing was pending), P
+-- holds
 abbrev pub AtStill : RunEnd → Type 0 → Type 0
 AtStill (AllEnded n) P = Unit {0}
 AtStill (Spent n) P = Unit {0}

@@ -32,8 +32,9 @@ module _ {X : Type 0} {F : X → Type 0} where
     pub same : IsSameCell before after
     pub ready : IsReady meaning after
 
-  -- a cell as its turn leaves it, which took `count` messages: as a visit leaves it if it had not
-  -- ended, and unchanged if it had; a cell that is visited so had not failed
+  -- a cell before and after its turn, in which it took `count` messages: if it had ended, it is
+  -- unchanged and `count` is 0; if not, it was visited, and it had failed neither before nor
+  -- afterwards
   pub record HasTurned (meaning : DynBox X Global F → View) (count : ℕ) (before after : Cell X F) : Type 0 where
     pub rests : ended_of (state_of meaning before).view ≡ true → (after ≡ before) × (count ≡ 0)
     pub visit : ended_of (state_of meaning before).view ≡ false → IsVisit (state_of meaning before) count (state_of meaning after) × (fault_in after ≡ None)

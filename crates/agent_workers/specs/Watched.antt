@@ -84,10 +84,11 @@ module _ {X : Type 0} {F : X → Type 0} where
 
   -- a turn from `before` to `after`, which have as many cells. The turn before it, if there was
   -- one, led from `earlier` to `before`; otherwise `earlier` is `before`. Each cell was visited
-  -- once, unless it had ended; or it was passed over. That happens only to a cell of a part that is
-  -- `alone`, which has all cells, and only if the cell knew of nothing and was sent nothing from
-  -- when the turn before came to its place (in the first turn: from when that turn began) until
-  -- this turn came there.
+  -- once, unless it had ended; or it was passed over and has not changed. A cell is passed over
+  -- only under three conditions. The part is `alone`: it has all cells. The cell knew of no waiting
+  -- message. And no cell of the part sent it anything between the moment when the turn before came
+  -- to its place (in the first turn: when that turn began) and the moment when this turn came
+  -- there.
   pub record PassesNone (meaning : DynBox X Global F → View) (alone : Bool) (earlier before after : List (Cell X F)) : Type 0 where
     pub size : length after ≡ length before
     pub each : (i : ℕ) (a b : Cell X F) → slice_get before i ≡ Some a → slice_get after i ≡ Some b

@@ -63,10 +63,10 @@ pub(crate) fn play_cells<R: Threads + Sync, G: Gate>(
 ///
 /// The clause `turns` says whom a turn visits. Each turn visits each cell that has not ended once,
 /// unless the part is `alone`: it has all cells, and during a round nothing is sent on a link
-/// except by visits of these cells. Then a turn passes over a cell only if the cell knows of nothing
-/// and nothing was sent to it since the turn before came to its place, or, in the first turn, in
-/// this turn. The links were settled just before the first turn, so a visit would find nothing. A
-/// cell that is passed over passes no gate.
+/// except by visits of these cells. Then a turn passes over a cell only if the cell knows of
+/// nothing and nothing was sent to it since the turn before reached it (in the first turn: since
+/// this turn began). The links were settled just before the first turn, so a visit would find
+/// nothing. A cell that is passed over passes no gate.
 ///
 /// The marks of a [`Watch`] decide this. A visit marks each agent to which it sends something, and
 /// its own cell if it left something that the cell knows of. Only a cell's own turn takes its mark
@@ -76,8 +76,8 @@ pub(crate) fn play_cells<R: Threads + Sync, G: Gate>(
 /// these visits; so a part that is not `alone` visits all its cells in each turn. And a visit need
 /// not find what was sent before it: it takes at least what its cell knows to wait, and at most 64
 /// messages of each link, and the settling of the next round shows what is left. A visit that finds
-/// nothing leaves the cell as it was; contracts tell it from no visit by the number of visits, which
-/// only proofs know.
+/// nothing leaves the cell as it was; contracts tell it from no visit by the number of visits,
+/// which only proofs know.
 pub(crate) fn play_part<G: Gate>(
     gate: &G,
     alone: bool,

@@ -33,8 +33,8 @@ pub type CellsList = Vec<Cell>;
 ///
 /// The clause `parts` says in which parts the cells were played, and whom the turns of each part
 /// visit. A part that has not all cells visits each of them in each turn. A single part passes over
-/// a cell only if it knows of nothing, and nothing was sent to it since the turn before came to its
-/// place, or, in the first turn, in this turn. The clause `turns` says this of one worker. What one
+/// a cell only if it knows of nothing, and nothing was sent to it since the turn before reached it
+/// (in the first turn: since this turn began). The clause `turns` says this of one worker. What one
 /// part sends to another during a turn has no place in the order of the visits, so no clause speaks
 /// of it.
 ///
@@ -100,7 +100,7 @@ pub fn play_round<R: Threads + Sync, G: Gate>(
 }
 
 /// The size of the parts of a round of `cells` cells: `size` if sharing pays, else one that makes
-/// all cells one part. Parts of one cell are always played concurrently.
+/// all cells one part. If each part has one cell, the parts are always played concurrently.
 fn part_size(size: usize, cells: usize, waiting: &Waiting) -> usize
     requires { 0 < size }
     ensures some { 0 < result }

@@ -27,8 +27,8 @@ abbrev pub fault_of_wcsp : WcspFault → InputFault
 fault_of_wcsp (wcsps.Bad line kind) = Wcsp line kind
 fault_of_wcsp wcsps.NoMemory = NoMemory
 
--- what an input is read as is the answer that refuses it for this fault; if memory runs out,
--- nothing is promised
+-- the result of reading an input is the answer that refuses it for this fault; if the fault is that
+-- memory ran out, nothing is promised
 abbrev pub IsInputRefused : {A : Type 0} → Result A Answer → InputFault → Type 0
 IsInputRefused outcome (Text line kind) = outcome ≡ Err (ProblemText line (number_of_text kind) (number_of_problem kind))
 IsInputRefused outcome (Wcsp line kind) = outcome ≡ Err (WcspText line (number_of_kind kind) (number_of_wcsp_problem kind))

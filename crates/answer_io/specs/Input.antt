@@ -47,9 +47,9 @@ IsAllOf bytes (Some left) after = (bytes ≡ left) × (after ≡ Some [])
 abbrev pub but_last : List ℕ → List ℕ
 but_last counts = take (length counts - 1) counts
 
--- the reads between two states of a source gave as many bytes as these. Each but the last gave at
--- least one, and reading stopped with the first that took the total above input_limit: all but the
--- last gave no more than that together
+-- the reads between two states of a source gave together as many bytes as this list has. Each but
+-- the last gave at least one byte, and all but the last gave together at most input_limit: reading
+-- stopped with the first that took the total above it
 pub record AreReadsOf (bytes : List ℕ) (before after : SourceState) : Type 0 where
   pub counts : List ℕ
   pub made : after.gave ≡ before.gave ++ counts

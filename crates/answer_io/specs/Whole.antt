@@ -5,7 +5,7 @@ use Rattle.problem_text.specs.Lines.{Line, lines, numbered, with_words}
 use Rattle.problem_text.specs.Declarations.{Declared}
 use Rattle.problem_text.specs.Reading.{Fault, Parts, text_read}
 
--- the first line of a text that has words and ends after more than `used` bytes
+-- of a text's lines, the first that has words and ends after more than `used` bytes
 abbrev pub line_after : List ℕ → ℕ → Option Line
 line_after bytes used = find (λ line. nat_lt used line.used) (with_words (numbered 1 0 (lines bytes)))
 

@@ -19,7 +19,7 @@ bounds_from p (bucket ∷ later) = filter (λ t. not (has t.scope p)) (bounds_fr
 abbrev pub bounds_at : ℕ → List Bucket → List CostTable
 bounds_at p buckets = bounds_from p (drop p buckets)
 
--- the bound of depth p without variables: the sum of what the buckets from p on send besides tables
+-- the number among the bounds of depth p: the sum of what the buckets from p on send besides tables
 abbrev pub fixed_at : ℕ → List Bucket → ℕ
 fixed_at p buckets = sum_by (λ bucket. bucket.fixed) (drop p buckets)
 

@@ -16,10 +16,10 @@ abbrev pub least_cost : List CostTable → ℕ
 least_cost ts = sum_by (λ t. least t.cells) ts
 
 -- what is sent of projections (tables without a bucket's variable), with room for this many cells.
--- `sent` has, unchanged, those that name variables, except the largest of these, whose number is
--- `replaced`; each of them has, together with the tables of `sent`, more cells than the room.
--- `fixed` is the sum of the least cells of the projections that are not in `sent`, or count_limit
--- if that is less
+-- `sent` has, unchanged, the projections that name variables, except the `replaced` largest ones:
+-- each of these is at least as large as every table of `sent`, and would have, together with the
+-- tables of `sent`, more cells than the room. `fixed` is the sum of the least cells of the
+-- projections that are not in `sent`, or count_limit if that is less
 pub record AreProjectionsKept (room : ℕ) (projections sent : List CostTable) (fixed replaced : ℕ) : Type 0 where
   pub closed : List CostTable
   pub large : List CostTable

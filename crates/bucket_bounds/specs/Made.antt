@@ -17,7 +17,10 @@ IsItem sizes p t = IsTableOver sizes t × IsOfDepth p t
 abbrev pub IsBoundTable : List ℕ → ℕ → CostTable → Type 0
 IsBoundTable sizes p t = IsTableOver sizes t × All (λ v. v < p) t.scope
 
--- a bucket of variable p, when these are the bounds of depth p + 1: what it sends costs at most what its tables and the bounds that come to it cost; if it was not parted, it costs exactly what they cost at some value of p
+-- a bucket of variable p, when these are the bounds of depth p + 1: what it sends costs at most
+-- what its tables and the bounds that come to it cost. If it was not parted and none of its bounds
+-- was replaced (`IsUnparted`), then, at any values of the other variables, there is a value of p at
+-- which they cost exactly as much as what it sends
 pub record IsBucketMade (sizes : List ℕ) (p : ℕ) (bounds : List CostTable) (bucket : Bucket) : Type 0 where
   pub tables : All (IsItem sizes p) bucket.tables
   pub came : bucket.came ≡ filter (λ t. has t.scope p) bounds

@@ -31,8 +31,9 @@ scopes_in_turn p paths cut turns number =
     let slice : Dcop = slice_of p cut turn.values in
     option_map (in_turn number) (first_of (scope_difference slice paths turn.tables) (variables slice))
 
--- the first difference of the cells in a turn: at no value of its variable in the slice may a cell
--- be above the sum of the slice's own tables' and the children's cells
+-- the first difference of the cells in a turn. In the turn's slice, a cell of a variable's table
+-- must at each value of the variable be at most this sum: the cells of the variable's own tables
+-- and of its children's tables
 abbrev pub cells_in_turn : Dcop → List (List ℕ) → List ℕ → List Turn → ℕ → Option Differs
 cells_in_turn p paths cut turns number =
     let turn : Turn = turn_at turns number in
@@ -55,8 +56,8 @@ least_root_cell p turns = least_cell (root_told p (first_tables turns)) turns
 abbrev pub cut_deliveries : ℕ → ℕ → ℕ
 cut_deliveries turns agents = min (turns * dpop_deliveries agents) count_limit
 
--- the first difference after those of the tree: the scopes by turn and variable, the cells by turn,
--- variable, cell and value, and then the numbers
+-- the first difference in the scopes, by turn and variable, then in the cells, by turn, variable,
+-- cell and value, and then in the numbers
 abbrev pub cut_difference : TextFile → List (List ℕ) → List ℕ → List Turn → Report → Option Differs
 cut_difference f paths cut turns r =
     let p : Dcop = problem_solved f in

@@ -88,8 +88,8 @@ number_difference f root deliveries r =
     (option_or (unless_same (λ left right. Root left right) root (cost (problem_solved f) r.values))
     (bound_difference deliveries r))
 
--- the first difference after those of the tree: the scopes by variable, the cells by variable, cell
--- and value, and then the numbers
+-- the first difference in the scopes, by variable, then in the cells, by variable, cell and value,
+-- and then in the numbers
 abbrev pub difference_in : TextFile → List (List ℕ) → List Util → Report → Option Differs
 difference_in f paths utils r =
     let p : Dcop = problem_solved f in

@@ -26,8 +26,8 @@ pub record IsTreeOf (p : Dcop) (parents : List (Option ℕ)) (paths : List (List
   pub pseudotree : IsPseudotree p paths
   pub parents_are : parents ≡ parents_of paths
 
--- the parents are those of a pseudotree, and the first difference after those of the tree is this
--- one, or there is none
+-- the parents are those of a pseudotree; then this is the first difference in the scopes, the cells
+-- or the numbers (`difference_in`), or there is none
 abbrev pub IsDifferenceIn : TextFile → Report → List Util → Option Differs → Type 0
 IsDifferenceIn f r utils differs =
     (paths : List (List ℕ)) × IsTreeOf (problem_solved f) (parents_told (problem_solved f) utils) paths
@@ -45,8 +45,8 @@ abbrev pub IsTablesVerdict : TextFile → Report → List Util → Verdict → T
 IsTablesVerdict f r utils (Yes cost error) = IsDifferenceIn f r utils None × (cost ≡ r.cost) × (error ≡ gap_of f.goal r)
 IsTablesVerdict f r utils (No differs) = IsReportDifference f r utils differs
 
--- the parents of the first turn are those of a pseudotree, and the first difference after those of
--- the tree is this one, or there is none
+-- the parents of the first turn are those of a pseudotree; then this is the first difference in the
+-- scopes, the cells or the numbers (`cut_difference`), or there is none
 abbrev pub IsCutDifferenceIn : TextFile → Report → List ℕ → List Turn → Option Differs → Type 0
 IsCutDifferenceIn f r cut turns differs =
     (paths : List (List ℕ)) × IsTreeOf (problem_solved f) (parents_told (problem_solved f) (first_tables turns)) paths

@@ -10,8 +10,8 @@ use Rattle.cut_dpop.specs.Refusal.{refusal, IsCutRefusal}
 use Rattle.cut_dpop.specs.declared.run.CutEnd.{CutEnd}
 use Rattle.cut_dpop.specs.declared.fault.CutFault.{CutFault}
 
--- the end of a cut: the cut set at this limit was run in turns, which nothing refuses, and this is
--- the answer, with the tables of all turns if they are kept
+-- the end of a cut: the cut set at this limit is not refused, it was run in turns, and this is the
+-- answer, with the tables of all turns if they are kept
 pub record IsCutEnd (p : Dcop) (paths : List (List ℕ)) (limit : ℕ) (keep : Bool) (end : CutEnd) : Type 0 where
   pub cut : IsCutSet p paths limit end.cut
   pub allowed : refusal p paths end.cut keep ≡ None

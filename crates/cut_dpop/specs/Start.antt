@@ -26,7 +26,8 @@ IsDpopStart p (Adopt tree error) = ⊥
 abbrev pub IsNarrowForSlices : Dcop → List (List ℕ) → List ℕ → Type 0
 IsNarrowForSlices p paths cut = (values : List ℕ) → IsNarrow (slice_of p cut values) paths
 
--- how many messages one turn takes: a UTIL from each variable but the root, and a VALUE to it
+-- how many messages one turn takes: for each variable but the root, one UTIL from it and one VALUE
+-- to it
 abbrev pub turn_deliveries : Dcop → ℕ
 turn_deliveries p = 2 * (length p.sizes - 1)
 

@@ -36,8 +36,8 @@ abbrev pub seats_after : List SeatView → ℕ → List Take → Option SeatView
 seats_after seats i ts None = seats
 seats_after seats i ts (Some x) = deliver_all i (slice_set seats i (seat_after x ts)) (seat_sends x ts)
 
--- the first fault of these takes by an agent among n agents, if they have one; it is a fault if
--- there is no such agent
+-- the first fault of these takes by this agent, one of n agents, if they have a fault; if no agent
+-- is given, the fault is that there is no such agent
 abbrev pub seat_fault : ℕ → List Take → Option SeatView → Option EventFault
 seat_fault n ts None = Some Nobody
 seat_fault n ts (Some x) = or_else (form_fault n (ended_of x.view) ts) (short_in x.inbox ts)

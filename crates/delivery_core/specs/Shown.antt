@@ -16,7 +16,8 @@ use Rattle.letter_queues.specs.Inboxes.{senders}
 use Rattle.delivery_core.specs.State.{SeatView, CoreView, inbox_at, views_of}
 use Rattle.delivery_core.specs.NetworkState.{most_counted}
 
--- the view of an agent of this problem that has started: its neighbours are those of variable i
+-- the view of the agent of variable i of this problem, after its start: it names the neighbours of
+-- this variable
 pub record IsRunningAgent (p : Dcop) (i : ℕ) (v : View) : Type 0 where
   pub near : (private_of v).neighbours ≡ neighbours p i
   pub started : started_of v ≡ true

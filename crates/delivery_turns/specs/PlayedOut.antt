@@ -31,7 +31,7 @@ pub record HavePlayedOut (budget : ℕ) (made : List View) (certified : Bool) (p
   pub kept : IfSome played.log (IsLogOfRun made (flat_map (λ es. es) run.rounds) run.end)
 
 -- two runs of agents with the same start views under the same budget have the same rounds and the
--- same outcome, each with a log or without one
+-- same outcome, whether or not a log is requested of the one or of the other
 abbrev pub RunsGoOneWay : Type 0
 RunsGoOneWay =
     (budget : ℕ) (made : List View) (some other : Bool) (a b : PlayedOut) → (x : HavePlayedOut budget made some a) → (y : HavePlayedOut budget made other b)

@@ -30,9 +30,9 @@ pub fn children_may_be_joined()
     ensures { ChildrenMayBeJoined }
 {}
 
-/// If a list has the DPOP tables of the descendants of a variable, it has those of the variable too
-/// once the tables that are made for it are put there. The list still has those of any variable and
-/// its descendants that it had.
+/// If a list has the DPOP tables of the descendants of a variable, and the tables that are made for
+/// this variable are put at its place, then the list has the DPOP tables of the variable too. If
+/// the list had the tables of some variable and of its descendants before, it still has them.
 pub fn one_more_is_held()
     ensures { OneMoreIsHeld }
 {}

@@ -15,7 +15,8 @@ abbrev pub drained_by : List Passage → ℕ
 drained_by ps = sum_by (λ p. length p.drained) ps
 
 -- the first passage whose two lists differ has this number, and they first differ at this position;
--- `at` is how many messages the link had drained before, with 2^64 - 1 for any number from there up
+-- `at` is how many messages the link had drained before the one at that position, or 2^64 - 1 if
+-- they are more
 pub record FirstDiffer (passages : List Passage) (number place at : ℕ) : Type 0 where
   pub passage : Passage
   pub is : slice_get passages number ≡ Some passage

@@ -5,7 +5,8 @@ use Rattle.run_log.specs.LogStamps.{StampDifference}
 use Rattle.log_replay.specs.declared.fault.WrongStamp.{WrongStamp}
 use Rattle.log_replay.specs.declared.wrong.Moment.{Moment}
 
--- a wrong stamp that the code found, as a `StampDifference`, as the definitions have it
+-- a wrong stamp in the form in which the code gives it, turned into the `StampDifference` of the
+-- definitions
 abbrev pub difference_of : WrongStamp → StampDifference
 difference_of w = record { event = w.at; left = w.left; right = w.right }
 

@@ -14,8 +14,8 @@ use Rattle.minimised_problem.specs.declared.search.Found.{Found}
 abbrev pub places_found : Dcop → List (Option Place)
 places_found p = map (λ i. Some (place_found p i)) (range_with_len 0 (length p.sizes))
 
--- how many messages a search by tokens takes: one TOKEN to each variable except the root, and one
--- DONE from it
+-- how many messages a search by tokens takes: for each variable except the root, one TOKEN to it
+-- and one DONE from it
 abbrev pub token_deliveries : Dcop → ℕ
 token_deliveries p = 2 * (length p.sizes - 1)
 

@@ -45,7 +45,8 @@ abbrev pub upper_for : Goal → Dcop → ℕ → ℕ → ℕ
 upper_for Min p lower upper = upper
 upper_for Max p lower upper = top_of p - lower
 
--- the least upper bound of the optimum that the values and the root's agent show
+-- the lesser of the two upper bounds of the optimum that are shown: the cost of the values, and the
+-- upper bound of the root's agent, if it has one
 abbrev pub least_shown : Dcop → List ℕ → AdoptView → ℕ
 least_shown p values v = least_known (cost p values) (upper_bound v)
 

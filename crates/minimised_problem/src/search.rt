@@ -21,8 +21,9 @@ pub struct Found {
     pub deliveries: u64,
 }
 
-/// How many messages the token agents of a problem take: one TOKEN to each variable except the
-/// root, and one DONE from it. As a budget it is enough for them, and it is at most 10,000,000.
+/// How many messages the token agents of a problem take: for each variable except the root, one
+/// TOKEN to it and one DONE from it. As a budget it is enough for them, and it is at most
+/// 10,000,000.
 pub fn search_deliveries(problem: &Problem) -> u64
     ensures all { result ≡ token_deliveries problem.now }
     ensures few { result ≤ budget_limit }

@@ -6,5 +6,6 @@ pub mod ComeLaws
 pub mod CarryLaws
 mod BusyLaws
 pub mod TurnLaws
+mod LoadLaws
 pub mod WholeLaws
 mod PassLaws

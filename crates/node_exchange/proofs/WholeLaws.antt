@@ -3,7 +3,6 @@ use Rattle.std.proofs.Common.{◌≡◌, ℕ, List, [], ◌∷◌, ◌++◌, len
 use Rattle.std.proofs.lemmas.List.{append-nil, append_assoc, length-append}
 use Rattle.std.proofs.lemmas.List.Elements.{All-nil, All-cons, All-head, All-tail}
 use Rattle.std.proofs.lemmas.Option.{none-some, same_Some}
-use Rattle.worker_laws.specs.Cells.{EachAre}
 use Rattle.wire_pump.specs.Wire.{Told, told_more}
 use Rattle.wire_pump.specs.Ends.{start_of}
 use Rattle.wire_pump.specs.Pump.{HasPassed, HasAll, HaveAll, HasPumped}
@@ -12,7 +11,7 @@ use Rattle.node_exchange.specs.declared.fault.PassFault.{PassFault}
 use Rattle.node_exchange.specs.declared.fault.PassFault.TheVariants.{Failed, Bytes, NoMemory}
 use Rattle.node_exchange.specs.Faults.{IsNoDifference}
 use Rattle.node_exchange.specs.Honest.{HaveReceivedAll}
-use Rattle.node_exchange.specs.Turned.{IsPairLater, AreTurned, lost_by}
+use Rattle.node_exchange.specs.Turned.{Load, HasCarried, EachCarried, AreTurned, lost_by}
 use Rattle.node_exchange.proofs.TurnLaws.{empty}
 
 -- equal lists have equal ends of the same length
@@ -54,10 +53,10 @@ module _ {W : Type 0} (told : W → Told) (is_joined : W → W → Type 0) where
   abbrev IsWhole : W × W → Type 0
   IsWhole pair = HaveAll (told pair.0) (told pair.1)
 
-  pair_before : (d e : W × W) → IsPairLater told is_joined d e → IsWhole e → IsWhole d
-  pair_before d e later all = record {
-    there = all_before (told d.0) (told d.1) (told e.0) (told e.1) later.to_second later.at_second later.there all.there;
-    back = all_before (told d.1) (told d.0) (told e.1) (told e.0) later.to_first later.at_first later.back all.back;
+  pair_before : (l : Load) (d e : W × W) → HasCarried told is_joined l d e → IsWhole e → IsWhole d
+  pair_before l d e later all = record {
+    there = all_before (told d.0) (told d.1) (told e.0) (told e.1) l.0 later.at_second later.there all.there;
+    back = all_before (told d.1) (told d.0) (told e.1) (told e.0) l.1 later.at_first later.back all.back;
   }
 
   -- the last pair of a list, and those before it
@@ -70,20 +69,22 @@ module _ {W : Type 0} (told : W → Told) (is_joined : W → W → Type 0) where
   pub last_two : (pairs rest : List (W × W)) (first second : W) → pairs ≡ rest ++ (first, second) ∷ [] → HaveReceivedAll told pairs → HaveAll (told first) (told second)
   last_two pairs rest first second is all = (last_all rest (first, second) (subst (λ (ps : List (W × W)). HaveReceivedAll told ps) is all)).1
 
-  all_taken : (taken used before after : List (W × W)) → EachAre (IsPairLater told is_joined) taken used → before ++ used ≡ taken ++ after → HaveReceivedAll told after → HaveReceivedAll told before
-  all_taken [] [] before after later is all = subst (λ (ps : List (W × W)). HaveReceivedAll told ps) (sym is ∙ append-nil before) all
-  all_taken [] (e ∷ used) before after later is all = absurd later
-  all_taken (d ∷ taken) [] before after later is all = absurd later
-  all_taken (d ∷ taken) (e ∷ used) [] after later is all = All-nil IsWhole
-  all_taken (d ∷ taken) (e ∷ used) (pair ∷ before) after later is all =
+  all_taken : (ls : List Load) (taken used before after : List (W × W)) → EachCarried told is_joined ls taken used → before ++ used ≡ taken ++ after → HaveReceivedAll told after → HaveReceivedAll told before
+  all_taken [] [] [] before after later is all = subst (λ (ps : List (W × W)). HaveReceivedAll told ps) (sym is ∙ append-nil before) all
+  all_taken [] [] (e ∷ used) before after later is all = absurd later
+  all_taken [] (d ∷ taken) used before after later is all = absurd later
+  all_taken (l ∷ ls) [] used before after later is all = absurd later
+  all_taken (l ∷ ls) (d ∷ taken) [] before after later is all = absurd later
+  all_taken (l ∷ ls) (d ∷ taken) (e ∷ used) [] after later is all = All-nil IsWhole
+  all_taken (l ∷ ls) (d ∷ taken) (e ∷ used) (pair ∷ before) after later is all =
       let rest : before ++ e ∷ used ≡ taken ++ after = ap (λ (ps : List (W × W)). drop 1 ps) is in
-      let two = last_all before e (all_taken taken used (before ++ e ∷ []) after later.1 (append_assoc before (e ∷ []) used ∙ rest) all) in
-      All-cons IsWhole pair before (subst IsWhole (sym (ap (λ (ps : List (W × W)). get_or ps 0 pair) is)) (pair_before d e later.0 two.1)) two.0
+      let two = last_all before e (all_taken ls taken used (before ++ e ∷ []) after later.1 (append_assoc before (e ∷ []) used ∙ rest) all) in
+      All-cons IsWhole pair before (subst IsWhole (sym (ap (λ (ps : List (W × W)). get_or ps 0 pair) is)) (pair_before l d e later.0 two.1)) two.0
 
   -- pairs that were used in turn, of which none is gone
   pub turned_back : (xs ys : List (W × W)) → AreTurned told is_joined 0 xs ys → HaveReceivedAll told ys → HaveReceivedAll told xs
-  turned_back xs ys t all =
-      all_taken t.taken t.used xs ys t.later (t.turned ∙ ap (λ (ps : List (W × W)). ps ++ ys) (ap (λ (ps : List (W × W)). t.taken ++ ps) (empty t.gone t.few) ∙ append-nil t.taken)) all
+  turned_back xs ys (loads, t) all =
+      all_taken loads t.taken t.used xs ys t.later (t.turned ∙ ap (λ (ps : List (W × W)). ps ++ ys) (ap (λ (ps : List (W × W)). t.taken ++ ps) (empty t.gone t.few) ∙ append-nil t.taken)) all
 
   -- a fault after which all was received
   pub fault_back : (e : PassFault) (xs ys : List (W × W)) → AreTurned told is_joined (lost_by {T = Unit {0}} (Err e)) xs ys → HaveReceivedAll told ys → (HaveReceivedAll told xs → IsNoDifference e) → IsNoDifference e

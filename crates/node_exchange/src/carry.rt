@@ -5,7 +5,7 @@ ghost use Rattle.dcop_edge.specs.Faults.{Rose};
 ghost use Rattle.wire_pump.specs.Dialer.{HasDialCause};
 ghost use Rattle.wire_pump.specs.Pump.{HaveAll};
 ghost use Rattle.node_exchange.specs.Carried.{IsCarried, HaveAnyFault};
-ghost use Rattle.node_exchange.specs.Turned.{IsPairLater};
+ghost use Rattle.node_exchange.specs.Turned.{HasCarried};
 
 use dcop_base::Bytes;
 use std::alloc::{AllocGlobal, Global};
@@ -32,7 +32,8 @@ where
     D: Dialer,
     ensures cause { HasDialCause (D.faults dialer.old) (D.faults dialer.new) result }
     ensures dialer { D.is_honest dialer.old → D.is_honest dialer.new }
-    ensures later { IfOk result (λ p. IsPairLater D.W.told D.W.is_joined ends (p.first, p.second)) }
+    ensures later { IfOk result (λ p. HasCarried D.W.told D.W.is_joined (there, back)
+        ends (p.first, p.second)) }
     ensures honest { D.W.is_joined ends.0 ends.1 → HaveAll (D.W.told ends.0) (D.W.told ends.1)
         → IfOk result (IsCarried D.W.told D.W.is_joined there back) }
     ensures carried { IfOk result (λ p. HaveAll (D.W.told p.first) (D.W.told p.second)

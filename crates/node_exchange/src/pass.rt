@@ -1,13 +1,13 @@
 //! Passing what was drained from node to node.
 
-ghost use Rattle.std.specs.Prelude.{◌≡◌, ◌<◌, ◌+◌, ℕ, length, OnOk, IfErr};
+ghost use Rattle.std.specs.Prelude.{◌≡◌, ◌<◌, ◌+◌, ◌-◌, ℕ, [], ◌∷◌, length, OnOk, IfErr};
 ghost use Rattle.std.specs.List.{All};
 ghost use Rattle.worker_laws.specs.Cells.{EachAre};
 ghost use Rattle.node_exchange.specs.Passings.{SamePassing, HasReceived, AreAcross, LeadApart, HaveCome, NothingCame, AllCame, letters_of, frames_of};
 ghost use Rattle.node_exchange.specs.Letters.{IsLetter};
 ghost use Rattle.node_exchange.specs.Busy.{IsBusyPart};
 ghost use Rattle.node_exchange.specs.Honest.{AreHonest, HaveReceivedAll};
-ghost use Rattle.node_exchange.specs.Turned.{AreTurned, lost_by};
+ghost use Rattle.node_exchange.specs.Turned.{load, row_loads, loads, AreTurned, HaveCarried, lost_by};
 ghost use Rattle.node_exchange.specs.Faults.{HasPassCause, AreTwo, IsByteFault, IsNoDifference, IsNoFailure};
 
 use crate::busy::{busy_part, write_part};
@@ -38,9 +38,10 @@ use wire_pump::Dialer;
 ///   after the call, each wire tells that it has received all that the other one has sent.
 /// - [`PassFault::NoMemory`] if memory runs out.
 ///
-/// In any case the wires that were used are at the end of the list, in their order. After
-/// [`PassFault::Failed`] or [`PassFault::NoMemory`] the pair that was the next in turn may be gone.
-/// After a fault letters may have been added.
+/// In any case the wires that were used are at the end of the list, in their order, and the clause
+/// `loads` says what they have carried: the frames of what was drained, pair by pair, and after a
+/// fault only those of the first pairs. After [`PassFault::Failed`] or [`PassFault::NoMemory`] the
+/// pair that was the next in turn may be gone. After a fault letters may have been added.
 pub fn pass_all<R, D>(
     rt: &R,
     alloc: Global,
@@ -57,6 +58,8 @@ where
     ensures same { EachAre SamePassing passings.old passings.new }
     ensures wires { AreTurned D.W.told D.W.is_joined (lost_by result)
         wires.old.items wires.new.items }
+    ensures loads { HaveCarried D.W.told D.W.is_joined (loads nodes passings.old)
+        wires.old.items wires.new.items result }
     ensures cause { HasPassCause (D.faults dialer.old) (D.faults dialer.new) result }
     ensures dialer { D.is_honest dialer.old → D.is_honest dialer.new }
     ensures differs { IfErr result (IsByteFault nodes passings.old) }
@@ -94,6 +97,8 @@ where
     ensures same { EachAre SamePassing passings.old passings.new }
     ensures wires { AreTurned D.W.told D.W.is_joined (lost_by result)
         wires.old.items wires.new.items }
+    ensures loads { HaveCarried D.W.told D.W.is_joined (row_loads first (nodes - 1 - first) passings.old)
+        wires.old.items wires.new.items result }
     ensures cause { HasPassCause (D.faults dialer.old) (D.faults dialer.new) result }
     ensures dialer { D.is_honest dialer.old → D.is_honest dialer.new }
     ensures differs { IfErr result (IsByteFault nodes passings.old) }
@@ -130,6 +135,8 @@ where
     ensures same { EachAre SamePassing passings.old passings.new }
     ensures wires { AreTurned D.W.told D.W.is_joined (lost_by result)
         wires.old.items wires.new.items }
+    ensures loads { HaveCarried D.W.told D.W.is_joined (load first second passings.old ∷ [])
+        wires.old.items wires.new.items result }
     ensures cause { HasPassCause (D.faults dialer.old) (D.faults dialer.new) result }
     ensures dialer { D.is_honest dialer.old → D.is_honest dialer.new }
     ensures differs { (nodes : ℕ) → AreTwo nodes first second → IfErr result (IsByteFault nodes passings.old) }

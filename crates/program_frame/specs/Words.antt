@@ -17,7 +17,7 @@ use Rattle.program_frame.specs.declared.setting.OptionValue.TheVariants.{Number,
 abbrev pub place_behind : List Setting → ℕ
 place_behind settings = 1 + 2 * count_by (λ setting. is_some setting.value) settings
 
--- what a next step makes of a value; or the first fault
+-- what the next step makes of a value, or the fault if there is one instead of the value
 abbrev pub unless_fault : {A B : Type 0} → Result A WordFault → (A → Result B WordFault) → Result B WordFault
 unless_fault (Ok value) next = next value
 unless_fault (Err fault) next = Err fault

@@ -16,7 +16,8 @@ use Rattle.report_reader.specs.ReportLines.{Fault, Left}
 abbrev pub plain : Line → Plain
 plain line = record { number = line.number; words = words line.text.now }
 
--- the next line agrees with what was left and what is left after it
+-- what was left is the next line and then what is left now; or there is no next line, nothing was
+-- left, and nothing changed
 abbrev pub IsNext : Left → Option Line → Left → Type 0
 IsNext old None new = (old.lines ≡ []) × (new ≡ old)
 IsNext old (Some line) new = old ≡ record { lines = plain line ∷ new.lines; over = new.over }

@@ -40,8 +40,8 @@ table_in_turn names sizes turns tables words =
     if tells_other names (first_tables turns) words then Err BadLine
     else util_line names sizes.slice tables words
 
--- the values that the words of a line `turn` give. The line ends the turn before it, which comes
--- after `turns` and has `tables`: each variable must have its table there
+-- the values that the words of a line `turn` give. The line ends a turn that has `tables` and that
+-- `turns` precede; each variable must have its table among `tables`
 abbrev pub turn_behind : List (List ℕ) → CutSizes → List Turn → List Util → List (List ℕ) → Result (List ℕ) ReportKind
 turn_behind names sizes turns tables words =
     if lacks_util tables (length names) then Err BadLine

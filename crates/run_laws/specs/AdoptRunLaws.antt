@@ -31,7 +31,9 @@ abbrev pub AdoptBoundsEnclose : Type 0
 AdoptBoundsEnclose = (p : Dcop) (paths : List (List ℕ)) (error : ℕ) → IsProblem p → IsPseudotree p paths
     → (es : List Event) (end : Network) → IsAdoptRun p paths error es end → HoldsOfAdopt p paths error end
 
--- the bounds of a COST from agent j do not cross the stored ones: they may be stored if their context is part of what the agent knows after it has learned from the COST
+-- about a COST from agent j. If j is a child, the context of the COST gives the agent a value below
+-- its size, and the rest of this context fits and is part of what the agent knows after it has
+-- learned from it, then the bounds may be stored: they do not cross the stored ones
 abbrev pub DoesNotCross : AdoptView → ℕ → Context → ℕ → Option ℕ → Type 0
 DoesNotCross v j c l u = (k d : ℕ) → position (λ child. child == j) v.place.children ≡ Some k → value_in c v.own.me ≡ Some d → d < v.own.size
     → fits v (without v.own.me c) ≡ true → part_of (without v.own.me c) (learn v (without v.own.me c)).known ≡ true

@@ -27,9 +27,9 @@ pub fn adopt_bounds_enclose()
     ensures { AdoptBoundsEnclose }
 {}
 
-/// In every run of ADOPT agents on a pseudotree, if the context of a COST is part of what its
-/// receiver knows, the bounds of the COST do not cross the stored ones, so they are stored. This
-/// holds at every message of every batch.
+/// In every run of ADOPT agents on a pseudotree, no COST is ignored because its bounds contradict
+/// the stored ones, that is, because one's lower bound is above the other's upper bound. This holds
+/// at every message of every batch.
 pub fn no_bounds_cross()
     ensures { NoBoundsCross }
 {}

@@ -14,7 +14,8 @@ use Rattle.search_stages.specs.declared.asked.Asked.{Asked}
 use Rattle.search_stages.specs.declared.report.SearchReport.{SearchReport}
 use Rattle.search_stages.specs.declared.stages.Outcome.{Outcome}
 
--- the most nodes that a search visits: the budget; if nothing is to be bettered, the number of variables if this is greater, for a first assignment
+-- the most nodes that a search visits: the budget; but if no sum is to be bettered, at least the
+-- number of variables, so that a first assignment can be found
 abbrev pub most_visited : ℕ → ℕ → Option ℕ → ℕ
 most_visited budget count None = max budget count
 most_visited budget count (Some better) = budget

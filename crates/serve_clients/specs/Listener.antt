@@ -4,8 +4,8 @@ use Rattle.dcop_edge.specs.Faults.{Rose}
 use Rattle.serve_clients.specs.declared.listen_fault.ListenFault.{ListenFault}
 use Rattle.serve_clients.specs.declared.listen_fault.ListenFault.TheVariants as faults
 
--- a call fails by the listener only if the listener's count of faults rose; otherwise that count is
--- unchanged
+-- if a call failed because the listener did, the listener's count of faults rose; if it succeeded
+-- or ran out of memory, that count is unchanged
 abbrev pub HasListenCause : {T : Type 0} → ℕ → ℕ → Result T ListenFault → Type 0
 HasListenCause old new (Ok value) = new ≡ old
 HasListenCause old new (Err faults.Failed) = (old ≤ new) × Rose old new

@@ -38,7 +38,7 @@ abbrev pub AreReadAlike : Format → Format → Input → Input → Type 0
 AreReadAlike format format' (Whole bytes) (Whole bytes') = declared_in (input_read format bytes) ≡ declared_in (input_read format' bytes')
 AreReadAlike format format' input input' = input ≡ input'
 
--- inputs that are read alike have one answer, whatever words ask for DPOP, if all ask for a
+-- on inputs that are read alike, all words that ask for DPOP have one answer, if all ask for a
 -- certificate or none does
 abbrev pub DpopAnswersAreOne : Type 0
 DpopAnswersAreOne = (format format' : Format) (certified : Bool) (words words' : List (List ℕ)) (input input' : Input) (a b : Answer) → AskForDpop format certified words → AskForDpop format' certified words'
@@ -49,8 +49,8 @@ DpopAnswersAreOne = (format format' : Format) (certified : Bool) (words words' :
 abbrev pub IsGiven : List (List ℕ) → Input → Answer → Type 0
 IsGiven words input answer = IsAnswer words input answer ⊎ IsLinkAnswer words input answer
 
--- inputs that are read alike have one solved answer, whatever words ask for DPOP in any number of
--- nodes, if all ask for a certificate or none does
+-- on inputs that are read alike, all words that ask for DPOP, in any number of nodes, have one
+-- solved answer, if all ask for a certificate or none does
 abbrev pub SolvedAnswersAreOne : Type 0
 SolvedAnswersAreOne = (format format' : Format) (certified : Bool) (words words' : List (List ℕ)) (input input' : Input) (a b : Answer) → AskForDpop format certified words → AskForDpop format' certified words'
     → AreReadAlike format format' input input' → IsGiven words input a → IsGiven words' input' b → status_of a ≡ Solved → status_of b ≡ Solved → a ≡ b
@@ -73,8 +73,8 @@ HasFitProblem format input = ⊥
 abbrev pub ComeToDpop : Format → Bool → Input → List (List ℕ) → Type 0
 ComeToDpop format certified input words = AskForDpop format certified words ⊎ (AskForAuto format certified words × HasFitProblem format input)
 
--- inputs that are read alike have one solved answer, whatever words lead to DPOP in any number of
--- nodes, if all ask for a certificate or none does
+-- on inputs that are read alike, all words that lead to DPOP (`ComeToDpop`), in any number of
+-- nodes, have one solved answer, if all ask for a certificate or none does
 abbrev pub FitAnswersAreOne : Type 0
 FitAnswersAreOne = (format format' : Format) (certified : Bool) (words words' : List (List ℕ)) (input input' : Input) (a b : Answer) → ComeToDpop format certified input words → ComeToDpop format' certified input' words'
     → AreReadAlike format format' input input' → IsGiven words input a → IsGiven words' input' b → status_of a ≡ Solved → status_of b ≡ Solved → a ≡ b
@@ -86,7 +86,7 @@ pub record AskForDrill (drill : Drill) (words : List (List ℕ)) : Type 0 where
   pub unread : task_of command ≡ None
   pub served : drill_of command ≡ Some drill
 
--- one drill by DPOP has one solved answer, whatever words ask for it in any number of nodes
+-- all words that ask for one drill by DPOP, in any number of nodes, have one solved answer
 abbrev pub DrillAnswersAreOne : Type 0
 DrillAnswersAreOne = (drill : Drill) (words words' : List (List ℕ)) (input input' : Input) (a b : Answer) → drill.task ≡ tasks.Dpop false → AskForDrill drill words → AskForDrill drill words'
     → IsGiven words input a → IsGiven words' input' b → status_of a ≡ Solved → status_of b ≡ Solved → a ≡ b

@@ -22,7 +22,8 @@ use Rattle.solve_methods.specs.declared.dpop.Chosen.{Chosen}
 use Rattle.solve_methods.specs.declared.dpop.Choice.{Choice}
 use Rattle.solve_methods.specs.declared.dpop.Choice.TheVariants as choices
 
--- how many messages DPOP takes: one UTIL from each variable but the root, and one VALUE to it
+-- how many messages DPOP takes: for each variable but the root, one UTIL from it and one VALUE to
+-- it
 abbrev pub dpop_deliveries : Dcop → ℕ
 dpop_deliveries p = 2 * (length p.sizes - 1)
 

@@ -43,8 +43,8 @@ pub enum Choice {
     TooWide(Wide),
 }
 
-/// How many messages the DPOP agents of a problem take: one UTIL from each variable but the root,
-/// and one VALUE to it. This is also a sufficient budget for them.
+/// How many messages the DPOP agents of a problem take: for each variable but the root, one UTIL
+/// from it and one VALUE to it. This is also a sufficient budget for them.
 pub fn choice_deliveries(problem: &Problem) -> u64
     ensures all { result ≡ dpop_deliveries problem.now }
     ensures few { result ≤ budget_limit }

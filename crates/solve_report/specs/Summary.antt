@@ -16,13 +16,13 @@ number_words word number = word ∷ decimal number ∷ []
 abbrev pub run_lines : Ending → Method → List (List (List ℕ))
 run_lines status method = (codes "status" ∷ ending_word status ∷ []) ∷ (codes "method" ∷ method_word method ∷ []) ∷ []
 
--- the problem that was made
+-- the lines of the made problem: its seed, and its numbers of variables, tables and cells
 abbrev pub made_lines : Summary → List (List (List ℕ))
 made_lines s =
     number_words (codes "seed") s.seed ∷ number_words (codes "vars") s.vars ∷ number_words (codes "tables") s.tables
     ∷ number_words (codes "cells") s.cells ∷ []
 
--- what was found
+-- the lines of the result: deliveries, cost, both bounds and mark
 abbrev pub found_lines : Summary → List (List (List ℕ))
 found_lines s =
     number_words (codes "deliveries") s.deliveries ∷ number_words (codes "cost") s.cost ∷ number_words (codes "lower") s.lower

@@ -6,7 +6,7 @@ use Rattle.problem_text.specs.Canonical.{line}
 use Rattle.certificate_text.specs.CertificateText.{parent_word}
 use Rattle.solve_report.specs.declared.tree.NodeRow.{NodeRow}
 
--- a node all of whose variables are below `count`
+-- a row of a tree (a variable, its parent, its separator) all of whose variables are below `count`
 pub record IsNamedRow (count : ℕ) (row : NodeRow) : Type 0 where
   pub own : row.var < count
   pub parent : IfSome row.parent (λ p. p < count)

@@ -77,8 +77,8 @@ difference_words names (Event at fault) = codes "event" ∷ decimal at ∷ fault
 difference_words names (Stamp at left right) = codes "stamp" ∷ left_right (decimal at) left right
 difference_words names (Value var) = codes "value" ∷ name_in names var ∷ []
 
--- the words of each line of a verdict: yes with the cost and the gap, which is the line `error`, or
--- no with what differs
+-- the words of each line of a verdict: yes, with a line for the cost and the line `error` for the
+-- gap; or no, with what differs
 abbrev pub verdict_lines : List (List ℕ) → Verdict → List (List (List ℕ))
 verdict_lines names (Yes cost error) =
     (codes "status" ∷ codes "yes" ∷ []) ∷ (codes "cost" ∷ decimal cost ∷ []) ∷ (codes "error" ∷ decimal error ∷ [])

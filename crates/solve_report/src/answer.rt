@@ -74,14 +74,14 @@ pub enum Answer {
         kind: u8,
     },
     /// The problem text is refused for a fault of this kind at this line. Lines count from 1.
-    /// `problem` is the number of the problem's fault if the kind is 7, and 0 otherwise.
+    /// `problem` is, if the kind is 7, the number of what is wrong with the problem; otherwise 0.
     ProblemText {
         line: u64,
         kind: u8,
         problem: u8,
     },
     /// The WCSP text is refused for a fault of this kind at this line. Lines count from 1.
-    /// `problem` is the number of the problem's fault if the kind is 7, and 0 otherwise.
+    /// `problem` is, if the kind is 7, the number of what is wrong with the problem; otherwise 0.
     WcspText {
         line: u64,
         kind: u8,

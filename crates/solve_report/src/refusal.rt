@@ -9,7 +9,7 @@ ghost use Rattle.solve_report.specs.Refusal.{many_refusal, turns_refusal, wide_r
 use dcop_base::{Bytes, MAX_ASSIGNMENTS, MAX_JOINED_CELLS, MAX_SENT_CELLS, MAX_TURNS, NoMemory};
 use std::alloc::Global;
 
-/// The kind of a text's fault that is followed by the number of the problem's fault.
+/// The kind of a text's fault that is followed by the number of what is wrong with the problem.
 const PROBLEM_KIND: u8 = 7;
 
 /// `refused words at A kind K`

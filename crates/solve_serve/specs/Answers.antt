@@ -34,8 +34,8 @@ steps_for (key ∷ keys) (false ∷ finds) = Looked key false ∷ Made key ∷ s
 steps_for keys finds = []
 
 -- for each of these keys, in order, a look was made, and its reply was made exactly if the look
--- found nothing; `went` is a statement about a list of steps, namely that a maker took them, and it
--- holds of the steps of these looks and of the making of these replies
+-- found nothing. `went` holds of the list of these steps: the looks, and the making of replies. (It
+-- is used for the statement that a maker took these steps.)
 pub record AreLooked (went : List Step → Type 0) (keys : List (List ℕ)) (before after : Tally) : Type 0 where
   pub finds : List Bool
   pub each : length finds ≡ length keys

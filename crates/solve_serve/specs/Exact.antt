@@ -20,7 +20,7 @@ is_of_input (ends.Read served) = false
 is_of_input (ends.Write served) = false
 is_of_input (ends.Memory served) = false
 
--- the end after this many whole frames, by whether bytes follow them
+-- how a session ends after this many whole frames: closed if no bytes follow them, cut if some do
 abbrev pub end_behind : List ℕ → ℕ → SessionEnd
 end_behind [] served = ends.Closed served
 end_behind (b ∷ bs) served = ends.Cut served

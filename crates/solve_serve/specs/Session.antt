@@ -77,8 +77,8 @@ IsCause is_reply (ends.Memory served) requests behind beside more before after =
 
 -- a session ended so: its requests are the first that were read, in order; the frames of their
 -- replies were written, in order; and for each request in order a look was made, and its reply was
--- made exactly if that look found nothing. `went` is a statement about a list of steps, namely that
--- the maker took them, and it holds of the steps of these looks and of the making of these replies
+-- made exactly if that look found nothing. `went` holds of the list of these steps: the looks, and
+-- the making of replies. (It is used for the statement that the maker took these steps.)
 pub record HasServed (is_reply : List ℕ → List ℕ → Type 0) (went : List Step → Type 0) (end : SessionEnd) (before after : Outside) : Type 0 where
   pub requests : List (List ℕ)
   pub replies : List (List ℕ)

@@ -9,8 +9,8 @@ use Rattle.edit_text.specs.declared.kind.EditKind.{EditKind}
 use Rattle.edit_text.specs.declared.line.EditLine.{EditLine}
 use Rattle.edit_text.specs.declared.line.EditLine.TheVariants.{Set, Fill, Answer, End}
 
--- a line that says this is not refused, nor is any later one: an edit has no fault, and no line
--- after `end` has words
+-- given what a line says: neither this line nor a later one is refused; so an edit has no fault,
+-- and no line after `end` has words
 abbrev pub IsLineTaken : TextFile → Result EditLine EditKind → List Plain → (TextFile → Type 0) → Type 0
 IsLineTaken f (Ok (Set k cell cost)) ls later = (set_fault f.problem k cell cost ≡ None) × later (edited_file f k (cells_set f.problem.tables k cell cost))
 IsLineTaken f (Ok (Fill k cells)) ls later = (fill_fault f.problem k cells ≡ None) × later (edited_file f k cells)

@@ -15,23 +15,24 @@ pub record IsLinkKept (w : Wire) (ends : InnerEnds) : Type 0 where
   pub drained : flat_map (λ p. p.drained) w.passages ≡ taken_from ends.drain
   pub arrived : flat_map (λ p. p.arrived) w.passages ≡ sent_on ends.feed
 
--- each link has noted all that went through its inner ends
+-- each link's passages have exactly what went through its inner ends
 abbrev pub AreLinksKept : List Wire → List InnerEnds → Type 0
 AreLinksKept ws es = EachAre IsLinkKept ws es
 
--- what a link has noted is the first part of all that was ever drained of it, and of all that was
--- ever fed to its receiver
+-- what a link's passages say was drained is a first part of all that was ever drained at its one
+-- inner end; and what they say arrived is a first part of all that was ever fed to the other
 pub record IsNoted (w : Wire) (ends : InnerEnds) : Type 0 where
   pub drained : IsPrefix (flat_map (λ p. p.drained) w.passages) (taken_from ends.drain)
   pub arrived : IsPrefix (flat_map (λ p. p.arrived) w.passages) (sent_on ends.feed)
 
--- what a link has noted is a first part of what was drained at its one inner end, and all that was
--- fed to the other
+-- what a link's passages say was drained is a first part of what was drained at its one inner end;
+-- and what they say arrived is all that was fed to the other
 pub record IsFedNoted (w : Wire) (ends : InnerEnds) : Type 0 where
   pub drained : IsPrefix (flat_map (λ p. p.drained) w.passages) (taken_from ends.drain)
   pub arrived : flat_map (λ p. p.arrived) w.passages ≡ sent_on ends.feed
 
--- each link has noted all that was fed to its inner end
+-- `IsFedNoted` holds of each link: what its passages say arrived is all that was fed to its inner
+-- end
 abbrev pub AreFedNoted : List Wire → List InnerEnds → Type 0
 AreFedNoted ws es = EachAre IsFedNoted ws es
 
@@ -39,8 +40,8 @@ AreFedNoted ws es = EachAre IsFedNoted ws es
 abbrev pub HasSameFeed : InnerEnds → InnerEnds → Type 0
 HasSameFeed before after = sent_on after.feed ≡ sent_on before.feed
 
--- each link has noted a first part of what was drained at its one inner end, and of what was fed to
--- the other
+-- `IsNoted` holds of each link: its passages have a first part of what was drained at its one inner
+-- end, and a first part of what was fed to the other
 abbrev pub AreNoted : List Wire → List InnerEnds → Type 0
 AreNoted ws es = EachAre IsNoted ws es
 
@@ -63,9 +64,10 @@ abbrev pub MayKeepAll : List Wire → List Passing → List Wire → Type 0
 MayKeepAll before ps after = (k : ℕ) (v : Wire) (p : Passing) (w : Wire)
     → slice_get before k ≡ Some v → slice_get ps k ≡ Some p → slice_get after k ≡ Some w → MayKeep v p w
 
--- each link but the one at this place has noted all that was fed to its receiver, and that one a
--- first part of it
+-- for each link but the one at this place, what its passages say arrived is all that was fed to its
+-- receiver; for that one it is a first part
 pub record AreFedButOne (ws : List Wire) (es : List InnerEnds) : Type 0 where
   pub place : ℕ
   pub noted : AreNoted ws es
-  pub fed : (k : ℕ) (w : Wire) (e : InnerEnds) → slice_get ws k ≡ Some w → slice_get es k ≡ Some e → k ≢ place → IsFedNoted w e
+  pub fed : (k : ℕ) (w : Wire) (e : InnerEnds)
+      → slice_get ws k ≡ Some w → slice_get es k ≡ Some e → k ≢ place → IsFedNoted w e

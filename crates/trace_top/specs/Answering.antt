@@ -51,7 +51,8 @@ abbrev pub IsReadTrace : TextFile → ℕ → List ℕ → Asked → Result Repo
 IsReadTrace file before text asked (Ok report) reply = IsTraceOf file before text asked report.error report.certificate reply
 IsReadTrace file before text asked (Err fault) reply = reply ≡ Refused (answers.ReportText (before + fault.line) (number_of_report fault.kind))
 
--- the reply to the text of a report that follows a problem with `before` lines that declares this
+-- the reply to the text of a report; before it stands the text of a problem, which has `before`
+-- lines and declares this
 pub record RepliesTrace (d : Declared) (before : ℕ) (text : List ℕ) (asked : Asked) (reply : Reply) : Type 0 where
   pub file : TextFile
   pub is_file : IsFile file

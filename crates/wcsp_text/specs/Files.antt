@@ -33,8 +33,8 @@ Reads bytes (Err NoMemory) = Unit {0}
 Reads bytes (Err (Bad line kind)) =
     (after : ℕ) × (text_read bytes ≡ Err (record { after = after; kind = kind })) × (line ≡ line_at bytes after)
 
--- the file that is read has the WCSP values of the text's network, and its optimum has the least
--- WCSP value
+-- the file that is read has the WCSP values of the text's network, and an assignment that costs
+-- least in it (`IsCheapest`) has the least WCSP value
 abbrev pub HasValues : List ℕ → ReadWcsp → Type 0
 HasValues bytes r = (w : Network) → text_read bytes ≡ Ok (w, r.used)
     → IsValued w r.file.problem r.bar × HasLeastValue w r.file.problem

@@ -14,8 +14,8 @@ abbrev pub Ends : {B : Type 0} → LineEnd Fault → Result B Fault → Type 0
 Ends (ends.Fault fault) outcome = outcome ≡ Err fault
 Ends ends.NoMemory outcome = Unit {0}
 
--- a result of reading agrees with what the words say; `view` turns a value that was read into the
--- form in which the words say it
+-- a result of reading agrees with what the words say; the function `view` turns a value that was
+-- read into the form in which the words say it
 abbrev pub Gives : {A B : Type 0} → (A → B) → Result A (LineEnd Fault) → Result B Fault → Type 0
 Gives view (Ok x) outcome = outcome ≡ Ok (view x)
 Gives view (Err end) outcome = Ends end outcome

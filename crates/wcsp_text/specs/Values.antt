@@ -28,7 +28,7 @@ IsValued w p bar = (values : List ℕ) → IsAssignment p values
 abbrev pub IsCheapest : Dcop → List ℕ → Type 0
 IsCheapest p best = (values : List ℕ) → IsAssignment p values → cost p best ≤ cost p values
 
--- an optimum of the problem has the least WCSP value
+-- an assignment that costs least (`IsCheapest`) has the least WCSP value
 abbrev pub HasLeastValue : Network → Dcop → Type 0
 HasLeastValue w p = (best values : List ℕ) → IsAssignment p best → IsCheapest p best → IsAssignment p values
     → wcsp_value w best ≤ wcsp_value w values

@@ -31,8 +31,8 @@ pub enum WcspKind {
     Value,
     /// Kind 5: an arity is above 4.
     Arity,
-    /// Kind 7: the sizes and functions do not form a problem. `number` is the number of the
-    /// problem's fault.
+    /// Kind 7: the sizes and functions do not form a problem. `number` tells what is
+    /// wrong with the problem.
     Problem { number: u8 },
     /// Kind 8: a further word is on the line of the last word.
     AfterEnd,
@@ -54,7 +54,8 @@ impl WcspKind {
         }
     }
 
-    /// The number of the problem's fault if the kind is 7, and 0 otherwise.
+    /// If the kind is 7 (the sizes and functions form no problem), the number of what is wrong with
+    /// the problem; otherwise 0.
     pub fn problem(self) -> u8
         ensures { result ≡ number_of_problem self }
     {

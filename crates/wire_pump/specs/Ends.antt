@@ -5,23 +5,24 @@ use Rattle.wire_pump.specs.Wire.{Told, told_more, counted_more}
 use Rattle.wire_pump.specs.declared.ends.Lane.{Lane}
 use Rattle.wire_pump.specs.declared.ends.Ends.{Ends}
 
--- the start of a direction, which leads from one end to the other: the bytes that the one end had
--- sent until then, and those that the other had received, if they are told; and how many of each
+-- a moment from which a direction, from one end to the other, is measured: the bytes that the one
+-- end had sent by then and those that the other had received, if they are told; and how many of
+-- each
 pub record Before : Type 0 where
   pub sent : Option (List ℕ)
   pub received : Option (List ℕ)
   pub sent_count : ℕ
   pub received_count : ℕ
 
--- what the first of two ends has sent and the second has received so far, as the start of a
--- direction
+-- what the first of two ends has sent and the second has received so far, as the moment from which
+-- a direction is measured
 abbrev pub start_of : Told → Told → Before
 start_of from to = record { sent = from.sent; received = to.received; sent_count = from.sent_count; received_count = to.received_count }
 
--- since the start of a direction, its sending end has sent the first `went` of the direction's
--- bytes, and its receiving end has received `came` bytes, which stand first in the direction's
--- buffer. For each end: if its bytes are told, the new ones were appended; and its count rose by
--- their number, to 2^64 - 1 at most
+-- since the moment `before`, the sending end of a direction has sent the first `went` of the
+-- direction's bytes, and its receiving end has received `came` bytes, which stand first in the
+-- direction's buffer. For each end: if its bytes are told, the new ones were appended; and its
+-- count rose by their number, to 2^64 - 1 at most
 pub record HasMoved (before : Before) (from to : Told) (lane : Lane) : Type 0 where
   pub sent : from.sent ≡ told_more before.sent (take lane.went lane.bytes.items)
   pub received : to.received ≡ told_more before.received (take lane.came lane.buffer.items)
@@ -40,8 +41,8 @@ pub record CountsLater (a b : Told) : Type 0 where
   pub faults : b.faults ≡ a.faults
 
 module _ {W : Type 0} (told : W → Told) where
-  -- the same pump later: what had moved since any start is still what has moved, with the same
-  -- lists; the counts are later ones
+  -- the same pump later: what had moved since any earlier moment (`Before`) is still what has
+  -- moved, with the same lists; the counts are later ones
   pub record IsLater (a b : Ends W) : Type 0 where
     pub there : (before : Before) → HasMoved before (told a.first) (told a.second) a.there → HasMoved before (told b.first) (told b.second) b.there
     pub back : (before : Before) → HasMoved before (told a.second) (told a.first) a.back → HasMoved before (told b.second) (told b.first) b.back

@@ -29,10 +29,10 @@ pub record HaveAll (a b : Told) : Type 0 where
   pub back : HasAll b a
 
 module _ {W : Type 0} (told : W → Told) (is_joined : W → W → Type 0) where
-  -- the pump ran from this state to its end. For each direction, and every start (`Before`) of it:
-  -- if `HasMoved` holds from this start to this state, then `HasPassed` holds of all bytes of the
-  -- direction from this start to the end. If the two wires were joined, as the ends of one
-  -- connection, they still are
+  -- the pump ran on from this state until it was done. For each direction, take any earlier record
+  -- (`Before`) from which the ends have moved to this state, as `HasMoved` says. Then, measured
+  -- from that record, all bytes of the direction have passed (`HasPassed`). If the two wires were
+  -- joined, as the ends of one connection, they still are
   pub record EndsFrom (e : Ends W) (p : Pumped W) : Type 0 where
     pub there : (before : Before) → HasMoved before (told e.first) (told e.second) e.there → HasPassed before (told p.first) (told p.second) e.there.bytes.items p.at_second
     pub back : (before : Before) → HasMoved before (told e.second) (told e.first) e.back → HasPassed before (told p.second) (told p.first) e.back.bytes.items p.at_first
@@ -54,8 +54,8 @@ module _ {W : Type 0} (told : W → Told) (is_joined : W → W → Type 0) where
 
   -- two lists were pumped over two wires: both were sent, as far as the wires tell their bytes and
   -- count them, and as many bytes were received at the other ends. If the wires are joined and each
-  -- had received all that the other had sent, those bytes are the lists, and each has again
-  -- received all
+  -- had received all that the other had sent, then the bytes received are the lists, and afterwards
+  -- each has again received all that the other has sent
   pub record HasPumped (first second : W) (to_second to_first : List ℕ) (p : Pumped W) : Type 0 where
     pub there : HasPassed (start_of (told first) (told second)) (told p.first) (told p.second) to_second p.at_second
     pub back : HasPassed (start_of (told second) (told first)) (told p.second) (told p.first) to_first p.at_first

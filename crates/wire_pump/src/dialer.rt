@@ -90,7 +90,8 @@ pub trait Dialer {
         ensures gives { IfOk result (F.gives future) }
         ensures honest { is_honest self.old ↔ is_honest self.new };
 
-    /// Raises the count of faults exactly when this wire's count of faults is above 0.
+    /// Raises the dialer's count of faults exactly when this wire has counted a fault. (A count
+    /// that is at its limit stays there.)
     fn charge(&mut self, wire: &Self::W)
         ensures none { (Self.W.told wire.now).faults ≡ 0 → faults self.new ≡ faults self.old }
         ensures some { 0 < (Self.W.told wire.now).faults

@@ -1,5 +1,5 @@
-//! Wires, given as values: a stream of bytes in both directions, polled at each of its two ends,
-//! and a pump that sends two lists of bytes over them.
+//! Wires, which code gets as arguments: ends of streams of bytes in both directions, which are
+//! polled; and a pump that sends a list of bytes at each of two wires.
 //!
 //! A [`Wire`] is one end. For proofs alone, it tells the bytes that it has sent and received, if
 //! they are known. It counts the bytes that it has sent and received, how often a write waited, how

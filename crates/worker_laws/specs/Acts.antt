@@ -27,7 +27,7 @@ abbrev pub AreActs : ℕ → List ℕ → Account → List Deed → Type 0
 AreActs me among x [] = Unit {0}
 AreActs me among x (d ∷ ds) = IsAct me among x d × AreActs me among (do_one x d) ds
 
--- the account of a cell at this moment, without what it has sent or taken so far
+-- an account with the cell's view and stamp at this moment, in which nothing was sent or taken
 abbrev pub moment : CellState → Account
 moment c = record { view = c.view; stamp = c.stamp; posted = []; gains = [] }
 

@@ -50,7 +50,10 @@ pub record AreRightStamps (made : List View) (cells : List CellState) : Type 0 w
       → lane j c.sent ≡ posted_to j (fold do_one (now i) (deeds_from i (taken i) (journal_at (journals_of cells) i))).posted
   pub ascend : (i : ℕ) → AscendsAbove 0 (journal_at (journals_of cells) i)
 
--- cells have made a run of agents made with these views, and it ends in this network: the network has the cells' views and links, and as many deliveries; the journals' stamps are right; every merge of the journals is a run to this network; and the journals are in rounds under the budget
+-- cells have made a run of agents made with these views, and it ends in this network: the network
+-- has the cells' views and links, and as many deliveries as the cells have taken messages; the
+-- journals' stamps are right; every merge of the journals is a run to this network; and the
+-- journals are in rounds under the budget
 pub record IsRunOfCells (budget : ℕ) (made : List View) (cells : List CellState) (end : Network) : Type 0 where
   pub views : end.views ≡ map (λ c. c.view) cells
   pub sized : length end.desks ≡ length cells

@@ -24,8 +24,8 @@ pub record IsNodeEnd (node : ℕ → ℕ) (wires more : List Wire) (before last 
   pub exchange : IsExchange node wires more before ready
   pub settling : IsSettling node ready last
 
--- cells were played in such rounds, in which the links between nodes went from this state to that
--- one
+-- cells were played in rounds with an exchange before each, under a budget (`AreNodeRounds`); the
+-- links between nodes were `begun` before these rounds and are `wires` after them
 pub record ArePlayedOver (node : ℕ → ℕ) (budget : ℕ) (begun : List Wire) (started : List CellState) (wires : List Wire) (now : List CellState) : Type 0 where
   pub rounds : List (List CellState)
   pub are : AreNodeRounds node budget begun started rounds wires now

@@ -38,11 +38,11 @@ abbrev pub NodesAreOne : Type 0
 NodesAreOne = (node : ℕ → ℕ) (budget : ℕ) (cells after last : List CellState) (rounds : List (List CellState)) (begun wires more : List Wire)
     → AreNodeRounds node budget begun cells rounds wires after → IsNodeEnd node wires more after last → HaveHeld more → IsAsInOneNode budget cells after last rounds
 
--- before any round, cells in nodes count as played; and after one more round they still do, if the
--- deliveries before it were below the budget. If the cells had started and all links have held,
--- then played cells, after one more exchange and a last settling, have made a run, which ended as
--- they show; it ended with nothing pending if the last round took nothing and some agent has not
--- ended
+-- `ArePlayedOver` holds of cells in nodes before any round; and after one more round it still
+-- holds, if the deliveries before that round were below the budget. If the cells had started and
+-- all links have held, then cells of which it holds, after one more exchange and a last settling,
+-- have made a run, which ended as they show. The run ended with nothing pending if the last round
+-- took nothing and some agent has not ended
 pub record PlayedNodesMakeRuns : Type 0 where
   pub none : (node : ℕ → ℕ) (budget : ℕ) (wires : List Wire) (cells : List CellState) → ArePlayedOver node budget wires cells wires cells
   pub more : (node : ℕ → ℕ) (budget : ℕ) (begun wires between : List Wire) (cells now next : List CellState) → ArePlayedOver node budget begun cells wires now → total now < budget

@@ -13,10 +13,10 @@ pub record ArePlayed (budget : ℕ) (started now : List CellState) : Type 0 wher
   pub rounds : List (List CellState)
   pub are : AreCellRounds budget started rounds now
 
--- cells are played if there was no round, and still played after one more round, if the deliveries
--- before it were below the budget. If the cells had started, then once every link is settled again,
--- played cells have made a run, which ended as they show; it ended with nothing pending if the last
--- round took nothing and some agent has not ended
+-- `ArePlayed` holds of cells before any round; and after one more round it still holds, if the
+-- deliveries before that round were below the budget. If the cells had started, then cells of which
+-- it holds have made a run once every link is settled again; the run ended as they show. It ended
+-- with nothing pending if the last round took nothing and some agent has not ended
 pub record PlayedCellsMakeRuns : Type 0 where
   pub none : (budget : ℕ) (cells : List CellState) → ArePlayed budget cells cells
   pub more : (budget : ℕ) (started now next : List CellState) → ArePlayed budget started now → total now < budget → IsCellRound now next → ArePlayed budget started next

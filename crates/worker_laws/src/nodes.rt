@@ -25,11 +25,12 @@ pub fn played_nodes_make_runs()
     ensures { PlayedNodesMakeRuns }
 {}
 
-/// If on each link between nodes all that was sent was drained, and what arrived was taken or
-/// waits, and if agents of different nodes with no link between them passed nothing, then the same
-/// holds for every two agents of different nodes. The receiver must also know of at least 64 of the
-/// waiting messages, or of all if they are fewer; this too then holds for every two. No two links
-/// may lead from the same agent to the same agent.
+/// If on each link of a list all that was sent was drained and what arrived was taken or waits, and
+/// if agents of different nodes passed nothing where no link of the list leads, then all that was
+/// sent was drained and what arrived was taken or waits between every two agents of different
+/// nodes. On each link the receiver must also know of at least 64 of the waiting messages, or of
+/// all if they are fewer; this too then holds between every two. No two links of the list may lead
+/// from the same agent to the same agent.
 pub fn links_are_exchanged()
     ensures { LinksAreExchanged }
 {}

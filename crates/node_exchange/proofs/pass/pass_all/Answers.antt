@@ -1,4 +1,4 @@
-use Rattle.std.proofs.Common.{◌≡◌, ◌<◌, ◌+◌, ◌∙◌, refl, sym, subst, arith}
+use Rattle.std.proofs.Common.{◌≡◌, ◌<◌, ◌+◌, ◌-◌, ◌∙◌, refl, sym, subst, arith}
 use Rattle.node_exchange.specs.Faults.{IsByteFault, IsNoDifference}
 use Rattle.node_exchange.specs.Passings.{HaveCome}
 use Rattle.node_exchange.proofs.LetterLaws.{all_same, all_same_then}
@@ -6,14 +6,17 @@ use Rattle.node_exchange.proofs.ReceiveLaws.{still_across}
 use Rattle.node_exchange.proofs.ComeLaws.{none_come, all_come}
 use Rattle.node_exchange.proofs.BusyLaws.{still_busy}
 use Rattle.node_exchange.proofs.PassLaws.{err_on, nothing_on, fault_still, cause_on}
-use Rattle.node_exchange.proofs.TurnLaws.{turned_none, turned_then, turned_long, turned_on}
+use Rattle.node_exchange.proofs.TurnLaws.{with_none, with_then, first_then, carried_on, turned_any, turned_long}
+use Rattle.node_exchange.proofs.LoadLaws.{rows_next, rows_part, rows_all}
+use Rattle.node_exchange.specs.Turned.{row_loads, loads_of, loads, AreTurnedWith}
 use Rattle.node_exchange.proofs.WholeLaws.{turned_back, fault_back}
 use Rattle.node_exchange.proofs.pass.pass_all.Goals as goal
 
 pub loop-first-init : goal.loop-first-init
 loop-first-init g c = record {
   same = all_same c.args.passings.now;
-  wires = turned_none g.D.W.Wire.told g.D.W.Wire.is_joined 0 c.args.wires.now.items;
+  within = omega arith;
+  loads = with_none g.D.W.Wire.told g.D.W.Wire.is_joined 0 c.args.wires.now.items;
   faults = refl;
   dialer = λ d. d;
   wires_honest = λ h none. h;
@@ -28,14 +31,20 @@ pub pass_from-requires-clause-across : goal.pass_from-requires-clause-across
 pass_from-requires-clause-across g c κs within = still_across c.args.nodes c.args.passings.now c.loop-first.passings c.loop-first.invariant.same c.requires.across
 
 pub pass_from-requires-clause-wires : goal.pass_from-requires-clause-wires
-pass_from-requires-clause-wires g c κs within = λ many. subst (λ n. 0 < n) (sym (turned_long g.D.W.Wire.told g.D.W.Wire.is_joined c.args.wires.now.items c.loop-first.wires.items c.loop-first.invariant.wires)) (c.requires.wires many)
+pass_from-requires-clause-wires g c κs within = λ many. subst (λ n. 0 < n) (sym (turned_long g.D.W.Wire.told g.D.W.Wire.is_joined c.args.wires.now.items c.loop-first.wires.items (_, c.loop-first.invariant.loads))) (c.requires.wires many)
 
 pub returns-in_err-pass_from-clause-same : goal.returns-in_err-pass_from-clause-same
 returns-in_err-pass_from-clause-same g c = all_same_then c.args.passings.now c.loop-first.passings c.pass_from.new.passings c.loop-first.invariant.same c.pass_from.ensures.same
 
+pub returns-in_err-pass_from-clause-loads : goal.returns-in_err-pass_from-clause-loads
+returns-in_err-pass_from-clause-loads g c =
+    let i = c.loop-first.invariant in
+    carried_on g.D.W.Wire.told g.D.W.Wire.is_joined c.from_residual.result _ _ c.args.wires.now.items c.pass_from.new.wires.items c.from_residual.ensures.1
+    (first_then g.D.W.Wire.told g.D.W.Wire.is_joined _ (loads_of c.args.nodes c.loop-first.first c.args.passings.now) (row_loads c.loop-first.first (c.args.nodes - 1 - c.loop-first.first) c.loop-first.passings) (loads c.args.nodes c.args.passings.now) c.args.wires.now.items c.loop-first.wires.items c.pass_from.new.wires.items
+    (rows_part c.args.nodes c.loop-first.first c.args.passings.now c.loop-first.passings i.same c.loop-first-test.true) i.loads c.in_err-pass_from.ensures.loads)
+
 pub returns-in_err-pass_from-clause-wires : goal.returns-in_err-pass_from-clause-wires
-returns-in_err-pass_from-clause-wires g c =
-    turned_on g.D.W.Wire.told g.D.W.Wire.is_joined c.from_residual.result _ c.args.wires.now.items c.pass_from.new.wires.items c.from_residual.ensures.1 (turned_then g.D.W.Wire.told g.D.W.Wire.is_joined _ c.args.wires.now.items c.loop-first.wires.items c.pass_from.new.wires.items c.loop-first.invariant.wires c.in_err-pass_from.ensures.wires)
+returns-in_err-pass_from-clause-wires g c = turned_any g.D.W.Wire.told g.D.W.Wire.is_joined c.from_residual.result _ c.args.wires.now.items c.pass_from.new.wires.items (returns-in_err-pass_from-clause-loads g c)
 
 pub returns-in_err-pass_from-clause-cause : goal.returns-in_err-pass_from-clause-cause
 returns-in_err-pass_from-clause-cause g c = cause_on _ _ _ c.from_residual.result _ c.loop-first.invariant.faults c.from_residual.ensures.1 c.in_err-pass_from.ensures.cause
@@ -66,7 +75,9 @@ loop-first-preserved g c =
     let next : c.loop-first.first + 1 + 1 ≡ c.loop-first.first + 2 = omega arith in
     record {
       same = all_same_then c.args.passings.now c.loop-first.passings c.pass_from.new.passings i.same c.pass_from.ensures.same;
-      wires = turned_then g.D.W.Wire.told g.D.W.Wire.is_joined 0 c.args.wires.now.items c.loop-first.wires.items c.pass_from.new.wires.items i.wires c.in_ok-pass_from.ensures.wires;
+      within = let test = c.loop-first-test.true in omega (arith, test);
+      loads = subst (λ ls. AreTurnedWith g.D.W.Wire.told g.D.W.Wire.is_joined 0 ls c.args.wires.now.items c.pass_from.new.wires.items) (rows_next c.args.nodes c.loop-first.first c.args.passings.now c.loop-first.passings i.same)
+          (with_then g.D.W.Wire.told g.D.W.Wire.is_joined 0 _ _ c.args.wires.now.items c.loop-first.wires.items c.pass_from.new.wires.items i.loads c.in_ok-pass_from.ensures.loads);
       faults = c.in_ok-pass_from.ensures.cause ∙ i.faults;
       dialer = λ d. c.pass_from.ensures.dialer (i.dialer d);
       wires_honest = λ h none. (c.in_ok-pass_from.ensures.honest (i.wires_honest h none) (i.come h none)).0.0;
@@ -79,8 +90,14 @@ loop-first-preserved g c =
 pub returns-clause-same : goal.returns-clause-same
 returns-clause-same g c = c.loop-first.invariant.same
 
+pub returns-clause-loads : goal.returns-clause-loads
+returns-clause-loads g c =
+    let i = c.loop-first.invariant in
+    let test = c.loop-first-test.false in
+    subst (λ ls. AreTurnedWith g.D.W.Wire.told g.D.W.Wire.is_joined 0 ls c.args.wires.now.items c.loop-first.wires.items) (rows_all c.args.nodes c.loop-first.first c.args.passings.now i.within (omega (arith, test))) i.loads
+
 pub returns-clause-wires : goal.returns-clause-wires
-returns-clause-wires g c = c.loop-first.invariant.wires
+returns-clause-wires g c = (_, c.loop-first.invariant.loads)
 
 pub returns-clause-cause : goal.returns-clause-cause
 returns-clause-cause g c = c.loop-first.invariant.faults

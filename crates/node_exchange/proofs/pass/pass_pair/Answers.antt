@@ -2,11 +2,12 @@ use Rattle.std.proofs.Common.{◌∙◌, ◌++◌, ◌∷◌, [], Err, sym, ap, 
 use Rattle.node_exchange.specs.declared.fault.PassFault.TheVariants.{NoMemory}
 use Rattle.node_exchange.specs.Faults.{IsByteFault, IsNoDifference, dial_fault}
 use Rattle.node_exchange.specs.Honest.{AreHonest}
-use Rattle.node_exchange.specs.Turned.{AreTurned, lost_by}
+use Rattle.node_exchange.specs.Turned.{load, AreTurnedWith, lost_by}
 use Rattle.node_exchange.proofs.LetterLaws.{all_same, all_same_then}
 use Rattle.node_exchange.proofs.ReceiveLaws.{still_apart}
 use Rattle.node_exchange.proofs.PassLaws.{err_on, nothing_on, fault_still, turned_two, first_joined, first_all, turned_honest, back_frames, back_letters, turn_come}
-use Rattle.node_exchange.proofs.TurnLaws.{turned_none, turned_less, turned_pair, gone_pair, turned_on, turned_dial}
+use Rattle.node_exchange.proofs.TurnLaws.{with_none, with_pair, gone_pair, gone_dial, first_none, first_whole, carried_on, turned_any}
+use Rattle.node_exchange.proofs.LoadLaws.{same_load}
 use Rattle.node_exchange.proofs.WholeLaws.{last_two}
 use Rattle.node_exchange.proofs.pass.pass_pair.Goals as goal
 
@@ -19,38 +20,70 @@ returns-in_err-back-clause-same g c = all_same c.args.passings.now
 pub returns-in_err-came-clause-same : goal.returns-in_err-came-clause-same
 returns-in_err-came-clause-same g c = all_same c.args.passings.now
 
+pub returns-in_err-there-clause-loads : goal.returns-in_err-there-clause-loads
+returns-in_err-there-clause-loads g c =
+    carried_on g.D.W.Wire.told g.D.W.Wire.is_joined c.from_residual.result _ _ c.args.wires.now.items c.args.wires.now.items c.from_residual.ensures.1
+    (first_none g.D.W.Wire.told g.D.W.Wire.is_joined _ _ c.args.wires.now.items c.args.wires.now.items (with_none g.D.W.Wire.told g.D.W.Wire.is_joined _ c.args.wires.now.items))
+
+pub returns-in_err-back-clause-loads : goal.returns-in_err-back-clause-loads
+returns-in_err-back-clause-loads g c =
+    carried_on g.D.W.Wire.told g.D.W.Wire.is_joined c.from_residual-in_err-back.result _ _ c.args.wires.now.items c.args.wires.now.items c.from_residual-in_err-back.ensures.1
+    (first_none g.D.W.Wire.told g.D.W.Wire.is_joined _ _ c.args.wires.now.items c.args.wires.now.items (with_none g.D.W.Wire.told g.D.W.Wire.is_joined _ c.args.wires.now.items))
+
+pub returns-in_err-came-clause-loads : goal.returns-in_err-came-clause-loads
+returns-in_err-came-clause-loads g c =
+    carried_on g.D.W.Wire.told g.D.W.Wire.is_joined c.from_residual-in_err-came.result _ _ c.args.wires.now.items c.remove-ends.new.self.items c.from_residual-in_err-came.ensures.1
+    (first_none g.D.W.Wire.told g.D.W.Wire.is_joined _ _ c.args.wires.now.items c.remove-ends.new.self.items
+    (subst (λ ps. AreTurnedWith g.D.W.Wire.told g.D.W.Wire.is_joined (lost_by {T = Unit {0}} (Err (dial_fault c.in_err-came.field-0.0))) [] c.args.wires.now.items ps) (sym c.remove-ends.ensures.items) (gone_dial g.D.W.Wire.told g.D.W.Wire.is_joined c.in_err-came.field-0.0 c.args.wires.now.items c.requires.wires)))
+
+pub returns-in_err-push-clause-loads : goal.returns-in_err-push-clause-loads
+returns-in_err-push-clause-loads g c =
+    carried_on g.D.W.Wire.told g.D.W.Wire.is_joined c.from_residual-in_err-push.result NoMemory _ c.args.wires.now.items c.push.new.self.items c.from_residual-in_err-push.ensures.1
+    (first_none g.D.W.Wire.told g.D.W.Wire.is_joined _ _ c.args.wires.now.items c.push.new.self.items
+    (subst (λ ps. AreTurnedWith g.D.W.Wire.told g.D.W.Wire.is_joined 1 [] c.args.wires.now.items ps) (sym (c.in_err-push.ensures.items ∙ c.remove-ends.ensures.items)) (gone_pair g.D.W.Wire.told g.D.W.Wire.is_joined c.args.wires.now.items c.requires.wires)))
+
+pub returns-in_err-take_in-clause-loads : goal.returns-in_err-take_in-clause-loads
+returns-in_err-take_in-clause-loads g c =
+    carried_on g.D.W.Wire.told g.D.W.Wire.is_joined c.from_residual-in_err-take_in.result _ _ c.args.wires.now.items c.push.new.self.items c.from_residual-in_err-take_in.ensures.1
+    (first_whole g.D.W.Wire.told g.D.W.Wire.is_joined _ _ c.args.wires.now.items c.push.new.self.items
+    (subst (λ ps. AreTurnedWith g.D.W.Wire.told g.D.W.Wire.is_joined 0 (load c.args.first c.args.second c.args.passings.now ∷ []) c.args.wires.now.items ps) (sym (c.in_ok-push.ensures.items ∙ ap (λ ps. ps ++ (c.in_ok-came.came.first, c.in_ok-came.came.second) ∷ []) c.remove-ends.ensures.items))
+    (with_pair g.D.W.Wire.told g.D.W.Wire.is_joined _ c.args.wires.now.items c.remove-ends.result (c.in_ok-came.came.first, c.in_ok-came.came.second) c.requires.wires c.remove-ends.ensures.value
+    (same_load g.D.W.Wire.told g.D.W.Wire.is_joined c.args.first c.args.second c.args.passings.now c.in_ok-there.there c.in_ok-back.back c.remove-ends.result (c.in_ok-came.came.first, c.in_ok-came.came.second) c.in_ok-there.ensures.frames c.in_ok-back.ensures.frames c.in_ok-came.ensures.later))))
+
+pub returns-in_err-take_in-2-clause-loads : goal.returns-in_err-take_in-2-clause-loads
+returns-in_err-take_in-2-clause-loads g c =
+    carried_on g.D.W.Wire.told g.D.W.Wire.is_joined c.from_residual-in_err-take_in-2.result _ _ c.args.wires.now.items c.push.new.self.items c.from_residual-in_err-take_in-2.ensures.1
+    (first_whole g.D.W.Wire.told g.D.W.Wire.is_joined _ _ c.args.wires.now.items c.push.new.self.items
+    (subst (λ ps. AreTurnedWith g.D.W.Wire.told g.D.W.Wire.is_joined 0 (load c.args.first c.args.second c.args.passings.now ∷ []) c.args.wires.now.items ps) (sym (c.in_ok-push.ensures.items ∙ ap (λ ps. ps ++ (c.in_ok-came.came.first, c.in_ok-came.came.second) ∷ []) c.remove-ends.ensures.items))
+    (with_pair g.D.W.Wire.told g.D.W.Wire.is_joined _ c.args.wires.now.items c.remove-ends.result (c.in_ok-came.came.first, c.in_ok-came.came.second) c.requires.wires c.remove-ends.ensures.value
+    (same_load g.D.W.Wire.told g.D.W.Wire.is_joined c.args.first c.args.second c.args.passings.now c.in_ok-there.there c.in_ok-back.back c.remove-ends.result (c.in_ok-came.came.first, c.in_ok-came.came.second) c.in_ok-there.ensures.frames c.in_ok-back.ensures.frames c.in_ok-came.ensures.later))))
+
+pub returns-clause-loads : goal.returns-clause-loads
+returns-clause-loads g c =
+    subst (λ ps. AreTurnedWith g.D.W.Wire.told g.D.W.Wire.is_joined 0 (load c.args.first c.args.second c.args.passings.now ∷ []) c.args.wires.now.items ps) (sym (c.in_ok-push.ensures.items ∙ ap (λ ps. ps ++ (c.in_ok-came.came.first, c.in_ok-came.came.second) ∷ []) c.remove-ends.ensures.items))
+    (with_pair g.D.W.Wire.told g.D.W.Wire.is_joined _ c.args.wires.now.items c.remove-ends.result (c.in_ok-came.came.first, c.in_ok-came.came.second) c.requires.wires c.remove-ends.ensures.value
+    (same_load g.D.W.Wire.told g.D.W.Wire.is_joined c.args.first c.args.second c.args.passings.now c.in_ok-there.there c.in_ok-back.back c.remove-ends.result (c.in_ok-came.came.first, c.in_ok-came.came.second) c.in_ok-there.ensures.frames c.in_ok-back.ensures.frames c.in_ok-came.ensures.later))
+
 pub returns-in_err-there-clause-wires : goal.returns-in_err-there-clause-wires
-returns-in_err-there-clause-wires g c = turned_none g.D.W.Wire.told g.D.W.Wire.is_joined _ c.args.wires.now.items
+returns-in_err-there-clause-wires g c = turned_any g.D.W.Wire.told g.D.W.Wire.is_joined c.from_residual.result _ c.args.wires.now.items c.args.wires.now.items (returns-in_err-there-clause-loads g c)
 
 pub returns-in_err-back-clause-wires : goal.returns-in_err-back-clause-wires
-returns-in_err-back-clause-wires g c = turned_none g.D.W.Wire.told g.D.W.Wire.is_joined _ c.args.wires.now.items
+returns-in_err-back-clause-wires g c = turned_any g.D.W.Wire.told g.D.W.Wire.is_joined c.from_residual-in_err-back.result _ c.args.wires.now.items c.args.wires.now.items (returns-in_err-back-clause-loads g c)
 
 pub returns-in_err-came-clause-wires : goal.returns-in_err-came-clause-wires
-returns-in_err-came-clause-wires g c =
-    turned_on g.D.W.Wire.told g.D.W.Wire.is_joined c.from_residual-in_err-came.result _ c.args.wires.now.items c.remove-ends.new.self.items c.from_residual-in_err-came.ensures.1
-    (subst (λ ps. AreTurned g.D.W.Wire.told g.D.W.Wire.is_joined (lost_by {T = Unit {0}} (Err (dial_fault c.in_err-came.field-0.0))) c.args.wires.now.items ps) (sym c.remove-ends.ensures.items) (turned_dial g.D.W.Wire.told g.D.W.Wire.is_joined c.in_err-came.field-0.0 c.args.wires.now.items c.requires.wires))
+returns-in_err-came-clause-wires g c = turned_any g.D.W.Wire.told g.D.W.Wire.is_joined c.from_residual-in_err-came.result _ c.args.wires.now.items c.remove-ends.new.self.items (returns-in_err-came-clause-loads g c)
 
 pub returns-in_err-push-clause-wires : goal.returns-in_err-push-clause-wires
-returns-in_err-push-clause-wires g c =
-    turned_on g.D.W.Wire.told g.D.W.Wire.is_joined c.from_residual-in_err-push.result NoMemory c.args.wires.now.items c.push.new.self.items c.from_residual-in_err-push.ensures.1
-    (subst (λ ps. AreTurned g.D.W.Wire.told g.D.W.Wire.is_joined 1 c.args.wires.now.items ps) (sym (c.in_err-push.ensures.items ∙ c.remove-ends.ensures.items)) (gone_pair g.D.W.Wire.told g.D.W.Wire.is_joined c.args.wires.now.items c.requires.wires))
+returns-in_err-push-clause-wires g c = turned_any g.D.W.Wire.told g.D.W.Wire.is_joined c.from_residual-in_err-push.result _ c.args.wires.now.items c.push.new.self.items (returns-in_err-push-clause-loads g c)
 
 pub returns-in_err-take_in-clause-wires : goal.returns-in_err-take_in-clause-wires
-returns-in_err-take_in-clause-wires g c =
-    turned_less g.D.W.Wire.told g.D.W.Wire.is_joined _ c.args.wires.now.items c.push.new.self.items
-    (subst (λ ps. AreTurned g.D.W.Wire.told g.D.W.Wire.is_joined 0 c.args.wires.now.items ps) (sym (c.in_ok-push.ensures.items ∙ ap (λ ps. ps ++ (c.in_ok-came.came.first, c.in_ok-came.came.second) ∷ []) c.remove-ends.ensures.items))
-    (turned_pair g.D.W.Wire.told g.D.W.Wire.is_joined c.args.wires.now.items c.remove-ends.result (c.in_ok-came.came.first, c.in_ok-came.came.second) c.requires.wires c.remove-ends.ensures.value c.in_ok-came.ensures.later))
+returns-in_err-take_in-clause-wires g c = turned_any g.D.W.Wire.told g.D.W.Wire.is_joined c.from_residual-in_err-take_in.result _ c.args.wires.now.items c.push.new.self.items (returns-in_err-take_in-clause-loads g c)
 
 pub returns-in_err-take_in-2-clause-wires : goal.returns-in_err-take_in-2-clause-wires
-returns-in_err-take_in-2-clause-wires g c =
-    turned_less g.D.W.Wire.told g.D.W.Wire.is_joined _ c.args.wires.now.items c.push.new.self.items
-    (subst (λ ps. AreTurned g.D.W.Wire.told g.D.W.Wire.is_joined 0 c.args.wires.now.items ps) (sym (c.in_ok-push.ensures.items ∙ ap (λ ps. ps ++ (c.in_ok-came.came.first, c.in_ok-came.came.second) ∷ []) c.remove-ends.ensures.items))
-    (turned_pair g.D.W.Wire.told g.D.W.Wire.is_joined c.args.wires.now.items c.remove-ends.result (c.in_ok-came.came.first, c.in_ok-came.came.second) c.requires.wires c.remove-ends.ensures.value c.in_ok-came.ensures.later))
+returns-in_err-take_in-2-clause-wires g c = turned_any g.D.W.Wire.told g.D.W.Wire.is_joined c.from_residual-in_err-take_in-2.result _ c.args.wires.now.items c.push.new.self.items (returns-in_err-take_in-2-clause-loads g c)
 
 pub returns-clause-wires : goal.returns-clause-wires
-returns-clause-wires g c =
-    subst (λ ps. AreTurned g.D.W.Wire.told g.D.W.Wire.is_joined 0 c.args.wires.now.items ps) (sym (c.in_ok-push.ensures.items ∙ ap (λ ps. ps ++ (c.in_ok-came.came.first, c.in_ok-came.came.second) ∷ []) c.remove-ends.ensures.items))
-    (turned_pair g.D.W.Wire.told g.D.W.Wire.is_joined c.args.wires.now.items c.remove-ends.result (c.in_ok-came.came.first, c.in_ok-came.came.second) c.requires.wires c.remove-ends.ensures.value c.in_ok-came.ensures.later)
+returns-clause-wires g c = (load c.args.first c.args.second c.args.passings.now ∷ [], returns-clause-loads g c)
 
 pub returns-in_err-take_in-clause-differs : goal.returns-in_err-take_in-clause-differs
 returns-in_err-take_in-clause-differs g c = λ nodes two.
