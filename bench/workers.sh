@@ -11,8 +11,9 @@
 # comes to no end on (d): it is given the messages that `--budget` tells (300,000), and ends its round.
 # Prints the best of N runs (5, where it is not given) of the whole command, the runs with 1, 2, 4 and 64 workers
 # in turn, and ratios of times in the same run: one worker's to that of more, above 1 is faster than it; for
-# dpop also without the time of reading alone and the search for the tree, and for adopt for each message,
-# as more workers may take others. Stops with status 1 where dpop's bytes differ, or adopt's costs on (c).
+# dpop also without the time of reading alone and the search for the tree, and for adopt for each message.
+# Stops with status 1 where dpop's bytes differ, or adopt's costs on (c). Workers share (b) alone: one thread plays
+# (a), (c) and (d), however many workers there may be (`workers_share` of `agent_links`).
 # Then a line for each goal, on four processors. How much faster 4 workers are than 1: 1.0 times on (a) and (c),
 # 3.0 on (b), and 1.5 for each message on (d). 64 workers beside 4: 0.9 times on each file, on (d) for each message.
 # The memory of 4 workers, and that of 64: at most 1.5 times that of 1, on each file; GNU `time` measures it in three more runs.

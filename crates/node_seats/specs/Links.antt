@@ -25,8 +25,9 @@ pub record LeadsBetween (tails : List (List Tail)) (heads : List (List Head)) (w
   pub untaken : taken_from ends.drain ≡ []
   pub unpassed : w.passages ≡ []
 
--- each of these pairs of agents that are in different nodes has a link, and each link is between
--- one of these pairs
+-- of these pairs of a sender and a receiver, each whose two agents are in different nodes has a
+-- link from the sender to the receiver; and each link has the sender and the receiver of one of
+-- these pairs
 pub record KeepsPairs (node : ℕ → ℕ) (links : List Wire) (pairs : List (ℕ × ℕ)) : Type 0 where
   pub each : (i j : ℕ) → Contains pairs (i, j) → node i ≢ node j → (k : ℕ) × (w : Wire) × (slice_get links k ≡ Some w) × (w.sender ≡ i) × (w.receiver ≡ j)
   pub no_other : (k : ℕ) (w : Wire) → slice_get links k ≡ Some w → Contains pairs (w.sender, w.receiver)

@@ -37,14 +37,14 @@ pub record HasNewWire {W : Type 0} (told : W → Told) : Type 0 where
   pub wire : W
   pub new : IsNew (told wire)
 
--- some wire is the end of a new stream, and `honest`, which states that the dialer is honest, does
+-- some wire is the end of a new stream, and `honest`, the statement that the dialer is honest, does
 -- not hold
 abbrev pub HasUntrustedWire : {W : Type 0} → (W → Told) → Type 0 → Type 0
 HasUntrustedWire told honest = (¬ honest) × HasNewWire told
 
 -- one of three faults of a problem's agents in this number of nodes, in a phase of this kind. The
 -- links failed; then the dialer's count of faults rose, and only then. Or it is a difference that
--- agents of the problem may find; then `untrusted` holds, which states that the wires between the
+-- agents of the problem may find; then `untrusted` holds, the statement that the wires between the
 -- nodes, or the dialer that gave them, are not honest. Or memory ran out. With one node, no fault
 -- but the last one happens
 abbrev pub IsNodesFaultOf : Dcop → (Start → ℕ → Type 0) → ℕ → Type 0 → ℕ → ℕ → NodeFault → Type 0

@@ -95,8 +95,8 @@ IsInputAnswer task Broken answer = answer ≡ answers.Read
 IsInputAnswer task TooLong answer = answer ≡ answers.ProblemText 0 9 0
 IsInputAnswer task (Whole bytes) answer = IsTaskAnswer task bytes answer
 
--- the answer to a drill: it summarizes a right answer of `solve` on the file made for it, or passes
--- on that answer's refusal
+-- the answer to a drill, made from a right answer of `solve` on the drill's file: its summary if it
+-- is a report, and otherwise the same answer, a refusal
 pub record IsDrillAnswer (drill : Drill) (answer : Answer) : Type 0 where
   pub solved : Answer
   pub is : IsFileAnswer drill.task (told_of (made_for drill) None) solved

@@ -119,10 +119,10 @@ abbrev pub IsUnreadAnswerIn : ℕ → Option Drilled → Answer → Type 0
 IsUnreadAnswerIn nodes (Some drill) answer = IsAnswerIn drill.task nodes (declared_by (made_for drill)) (IsDrillAnswer drill) answer
 IsUnreadAnswerIn nodes None answer = IsUnreadAnswer None answer
 
--- what an answer says about links: `many` states that there is more than one node, `untrusted` that
--- the dialer is not honest and that some wire is the end of a new stream; if the answer is that
--- links failed, `many` holds and the dialer's count of faults rose, and otherwise that count is
--- unchanged; if it is that links differ, `many` and `untrusted` hold
+-- what an answer says about links. `many` is the statement that there is more than one node, and
+-- `untrusted` that the dialer is not honest and some wire is the end of a new stream. If the answer
+-- is that links failed, `many` holds and the dialer's count of faults rose; otherwise that count is
+-- unchanged. If the answer is that links differ, `many` and `untrusted` hold
 pub record TellsAnswer (many untrusted : Type 0) (old new : ℕ) (answer : Answer) : Type 0 where
   pub failed : status_of answer ≡ LinkFault → many × (old ≤ new) × Rose old new
   pub differs : status_of answer ≡ LinkDiffers → many × untrusted

@@ -5,9 +5,9 @@ ghost use Rattle.solve_answers.specs.Same.{AutoAnswersAreThoseOfDpop, DpopAnswer
 use dcop_optimum::first_optima_of_trees_are_one;
 use pseudotree::depth_first_trees_are_linked;
 
-/// The answer of `solve --method dpop` depends only on the file, and on whether a certificate is
-/// requested. Whatever the other words, such as the number of workers, all texts of one file have
-/// the same answer.
+/// Apart from answers about links between nodes, the answer of `solve --method dpop` depends only
+/// on the file, and on whether a certificate is requested. Whatever the other words, such as the
+/// number of workers, all texts of one file have the same answer.
 ///
 /// The law is the contract of a call that does nothing: to use the law, call it.
 pub fn dpop_answers_are_one()

@@ -40,9 +40,10 @@ use Rattle.answer_io.specs.InputTold.{DeclaredInput}
 use Rattle.answer_io.specs.Inputs.{input_read}
 use Rattle.answer_io.specs.Fronts.{front_read, lines_in}
 
--- a call on these words found an answer and showed it, or its sink failed after a prefix of it;
--- `untrusted` states that its dialer is not honest and that some wire is the end of a new stream,
--- and the dialer's count of faults was `old` and is `new`
+-- a call on these words found an answer and showed it, or its sink failed after a prefix of it.
+-- What the answer says about links fits the dialer's count of faults, which was `old` and is now
+-- `new`, and fits `untrusted` (`TellsAnswer`). `untrusted` is the statement that the dialer is not
+-- honest and some wire is the end of a new stream
 pub record Solves (words : List (List ℕ)) (untrusted : Type 0) (old new : ℕ) (source source' : SourceState) (sink sink' : SinkState) (status : Status) : Type 0 where
   pub answer : Answer
   pub answered : Answered words source source' answer

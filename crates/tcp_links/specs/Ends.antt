@@ -46,19 +46,20 @@ pub record HasLostOver (node : ℕ → ℕ) (budget : ℕ) (begun : List Wire) (
   pub there : AreThere node budget begun started wires now round
   pub lost : IsLostExchange wires left now last
 
--- after `round` rounds, an exchange was broken off before any link had passed anything; in it one
--- node sent to another all that its own agents had sent to agents of the other node and that no
--- earlier exchange had drained; what came is not whole frames of letters, and this is the first
--- byte that differs
+-- after `round` rounds, an exchange was broken off before any link had passed anything. In it, one
+-- node sent to another what its agents had sent to agents of the other, except what earlier
+-- exchanges had drained already. What came is not the frames of letters on the links from the one
+-- to the other, and this is the first byte that differs from what was sent
 pub record HasOtherByte (nodes : ℕ) (node : ℕ → ℕ) (budget : ℕ) (begun : List Wire) (started : List CellState) (left : List Wire) (last : List CellState) (round from_node to_node place : ℕ) (sent taken : Option ℕ) : Type 0 where
   pub behind : HasLostOver node budget begun started round left last
   pub passings : List Passing
   pub drained : EachAre (IsDrainedOf node behind.now) left passings
   pub other : IsByteBetween nodes passings from_node to_node place sent taken
 
--- after the rounds, one exchange more and a last settling, these are the first two envelopes that
--- differ, on the lowest link that differs. Each link's passages had all that went through its inner
--- ends; then the link that differs was replaced by a new one (`IsRenewed`)
+-- after the rounds, one exchange more and a last settling: on the lowest link that differs, these
+-- are the envelope that was drained and the one that arrived at the first place where they differ;
+-- one of them may be missing. At that time each link's passages had exactly what went through its
+-- inner ends; afterwards the link that differs was replaced by a new one (`IsRenewed`)
 pub record HasOtherMessage (node : ℕ → ℕ) (budget : ℕ) (begun : List Wire) (started : List CellState) (left : List Wire) (ends : List InnerEnds) (last : List CellState) (from to at : ℕ) (sent taken : Option (ℕ × Sent)) : Type 0 where
   pub count : ℕ
   pub wires : List Wire
@@ -70,7 +71,8 @@ pub record HasOtherMessage (node : ℕ → ℕ) (budget : ℕ) (begun : List Wir
   pub differs : DifferKept passed from to at sent taken
   pub renewed : IsRenewed passed from to left
 
--- a difference is one between two envelopes or one between two bytes
+-- what holds when a run met this difference: `HasOtherMessage` if it is one of two envelopes,
+-- `HasOtherByte` if it is one of two bytes
 abbrev pub IsDifference : ℕ → (ℕ → ℕ) → ℕ → List Wire → List CellState → List Wire → List InnerEnds → List CellState → Difference → Type 0
 IsDifference nodes node budget begun started left ends last (Message from to at sent taken) = HasOtherMessage node budget begun started left ends last from to at sent taken
 IsDifference nodes node budget begun started left ends last (Bytes round from_node to_node place sent taken) = HasOtherByte nodes node budget begun started left last round from_node to_node place sent taken

@@ -14,7 +14,7 @@ use Rattle.tcp_links.specs.declared.plan.InnerEnds.{InnerEnds}
 use Rattle.tcp_links.specs.declared.plan.NodePlan.{NodePlan}
 use Rattle.tcp_links.specs.Kept.{AreFedNoted, AreFedButOne}
 
--- if two envelopes differ, they were the first two that differed on the lowest link that differed,
+-- if the difference is one of two envelopes, it was the first one of the lowest link that differs,
 -- and this link has become a new one; else no link has changed
 abbrev pub IsTakenOut : Difference → List Wire → List Wire → Type 0
 IsTakenOut (Message from to at sent taken) before after = DifferKept before from to at sent taken × IsRenewed before from to after
@@ -28,9 +28,9 @@ pub record AreSameEnds (before after : InnerEnds) : Type 0 where
   pub drained : IsPrefix (taken_from before.drain) (taken_from after.drain)
   pub fed : IsPrefix (sent_on before.feed) (sent_on after.feed)
 
--- what the passages of links say arrived when a run met this fault: on each link all that was fed
--- to its receiver; but after a difference of envelopes, or if memory ran out, on one link perhaps
--- only a first part of it
+-- after a run met this fault: on each link, what its passages say arrived is all that was fed to
+-- its receiver; but after a difference of envelopes, or if memory ran out, on at most one link it
+-- may be only a first part of that
 abbrev pub AreNotedAfter : NodeFault → List Wire → List InnerEnds → Type 0
 AreNotedAfter Failed ws es = AreFedNoted ws es
 AreNotedAfter (Differs (Message from to at sent taken)) ws es = AreFedButOne ws es

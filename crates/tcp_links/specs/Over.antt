@@ -33,8 +33,8 @@ use Rattle.node_exchange.specs.Passings.{Passing}
 use Rattle.tcp_links.specs.Faults.{IsByteFaultAfter}
 use Rattle.tcp_links.specs.Broken.{IsPartExchange, IsLostExchange}
 
--- what an exchange passes on a link is all that its sender has sent and no earlier exchange has
--- drained
+-- what an exchange drained of a link is all that the link's sender has sent, except what earlier
+-- exchanges have drained already
 pub record IsDrainedOf (node : ℕ → ℕ) (cells : List CellState) (w : Wire) (p : Passing) : Type 0 where
   pub link : IsPassingOf node w p
   pub drained : (from : CellState) → slice_get cells w.sender ≡ Some from → flat_map (λ q. q.drained) w.passages ++ p.drained ≡ lane w.receiver from.sent
