@@ -29,8 +29,9 @@ pub fn solved_answers_are_one()
     depth_first_trees_are_linked();
 }
 
-/// If nothing is too wide for DPOP in the tree of the problem read, the answer of `solve --method
-/// auto` is that of `solve --method dpop`. So it is solved, and one function of the file.
+/// If nothing is too wide for DPOP in the tree of the problem read, an answer of `solve --method
+/// auto`, unless it is about links between nodes, is one of `solve --method dpop`, if a certificate
+/// is requested of both or of neither.
 ///
 /// The law is the contract of a call that does nothing: to use the law, call it.
 pub fn auto_answers_are_those_of_dpop()
